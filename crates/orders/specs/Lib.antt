@@ -1,0 +1,9 @@
+pub mod Values
+pub mod Choices
+pub mod Chain
+pub mod KeyOrders
+pub mod TotalLaws
+pub mod ValueLaws
+pub mod ColumnLaws
+pub mod ChainLaws
+pub mod KeyOrderLaws
