@@ -1,0 +1,9 @@
+pub mod Clock
+pub mod Faults
+pub mod Meaning
+pub mod Memory
+pub mod Layout
+pub mod Keys
+pub mod Log
+pub mod Coming
+pub mod Written
