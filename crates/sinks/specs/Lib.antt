@@ -1,0 +1,4 @@
+pub mod Caps
+pub mod Meaning
+pub mod RecordLists
+pub mod Tallies
