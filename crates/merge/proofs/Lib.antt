@@ -1,0 +1,15 @@
+pub mod Perms
+pub mod Orders
+pub mod Steps
+pub mod Counts
+pub mod Prefixes
+pub mod Distincts
+pub mod Shuffles
+pub mod Members
+pub mod Flags
+pub mod Stages
+pub mod Sides
+pub mod Joined
+pub mod Sequence
+pub mod Merging
+pub mod Loops

@@ -1,0 +1,13 @@
+pub mod Table
+pub mod Members
+pub mod Sides
+pub mod Joined
+pub mod Runs
+pub mod Path
+pub mod Decided
+pub mod Sequence
+pub mod Merging
+pub mod Places
+pub mod Numbers
+pub mod NumberLaws
+pub mod Examples
