@@ -1,0 +1,14 @@
+pub mod Fetching
+pub mod GradeCounts
+pub mod KeyKinds
+pub mod Lines
+pub mod Names
+pub mod Sequences
+pub mod Settings
+pub mod Shows
+pub mod Summaries
+pub mod Tables
+pub mod Totals
+pub mod Verbs
+pub mod Wanted
+pub mod Words
