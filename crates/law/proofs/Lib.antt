@@ -1,0 +1,4 @@
+pub mod Totals
+pub mod Pipes
+pub mod Rows
+pub mod Holds
