@@ -1,0 +1,14 @@
+pub mod Entries
+pub mod Plain
+pub mod Block
+pub mod Follows
+pub mod Fetch
+pub mod Load
+pub mod Grow
+pub mod Leave
+pub mod Turn
+pub mod Steps
+pub mod Sound
+pub mod Words
+pub mod Falls
+pub mod OneTurn

@@ -1,0 +1,5 @@
+pub mod Machine
+pub mod Refusals
+pub mod Report
+pub mod Law
+pub mod Weight
