@@ -93,7 +93,7 @@ empty = record { batches = []; base = 0; held = 0; start = 0; end = 0; matched =
 abbrev pub is-consumed : BufferedBatch → Bool
 is-consumed b = eqb (b .end) (b .rows)
 
--- the rows of the batches that leave: the consumed ones up to the first that is not
+-- the batches that leave: the consumed ones up to the first that is not
 abbrev pub leaving : List BufferedBatch → List BufferedBatch
 leaving [] = []
 leaving (b ∷ l) = cond (is-consumed b) (b ∷ leaving l) []
