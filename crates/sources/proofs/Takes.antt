@@ -1,4 +1,4 @@
--- What a take comes to in each of its three cases, and where the rows are changed one by one after it.
+-- What a take of a batch that fits comes to, and where the rows are changed one by one after it.
 use mathlib.Core.Path.{_≡_, refl, sym, ap, _∙_}
 use mathlib.Core.List.{List, [], _∷_, _++_, map}
 use mathlib.Core.Bool.{Bool, true, false, cond}
@@ -6,7 +6,7 @@ use Prim.Native.Nat.{ℕ, _-_, _<_, _≤_}
 use native.Mathlib.Omega.{arith}
 use lib.ListN.{length, take, drop, length-map}
 use lib.Dec.{leb}
-use borrow.Author.Tests.{le-leb, lt-leb}
+use borrow.Author.Tests.{le-leb}
 use borrow.Rule.Slice.PartMut.{postOf}
 use Rattle.std.proofs.shelf.Lists.{take-at, drop-at}
 use Rattle.std.specs.declared.result.Result.{Result}
@@ -21,16 +21,9 @@ use Rattle.sources.specs.declared.source.TakeRefusal.the-variants.{TooShort}
 use Rattle.sources.specs.Meaning.{Took, take-of, not-taken, upcoming}
 
 module _ {A : Type 0} (batches : List (List A)) (close : Closing) (memory : List A) where
-  pub takes-none : batches ≡ [] → take-of batches close memory ≡ record { answer = not-taken close; left = []; memory = memory }
-  takes-none e = rw e
-
   pub takes-first : (batch : List A) (left : List (List A)) → batches ≡ batch ∷ left → length batch ≤ length memory
       → take-of batches close memory ≡ record { answer = Ok (Batch (length batch)); left = left; memory = batch ++ drop (length batch) memory }
   takes-first batch left e h = rw (e, le-leb (length batch) (length memory) h)
-
-  pub takes-short : (batch : List A) (left : List (List A)) → batches ≡ batch ∷ left → length memory < length batch
-      → take-of batches close memory ≡ record { answer = Err TooShort; left = batch ∷ left; memory = memory }
-  takes-short batch left e h = rw (e, lt-leb (length batch) (length memory) h)
 
 -- a memory after a write to its first n places
 pub written : {A : Type 0} (n : ℕ) (part batch memory : List A) → part ≡ batch → part ++ postOf 0 (n - 0) memory ≡ batch ++ drop n memory
