@@ -1,4 +1,6 @@
 // What a pair of readings has to meet.
+#![tactic(auto)]
+
 pub mod both;
 pub mod filter;
 pub mod grade;

@@ -1,4 +1,6 @@
 // Shows and joins logs of frames that were sent and heard.
+#![tactic(auto)]
+
 mod args;
 mod fetch;
 mod grades;

@@ -1,4 +1,6 @@
 // The join: opened, worked turn by turn, and reported on.
+#![tactic(auto)]
+
 mod close;
 mod compare;
 mod fetch;

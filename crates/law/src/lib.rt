@@ -1,3 +1,5 @@
+#![tactic(auto)]
+
 ghost use Rattle.law.specs.Law.{Stands};
 
 // The law of runs holds of the join in its plain form, over any rows, source faults and sink values.

@@ -1,4 +1,6 @@
 // Asks every order of a few keys for its laws, at every pair and triple, and prints what it answers.
+#![tactic(auto)]
+
 mod laws;
 mod tables;
 

@@ -1,5 +1,7 @@
 // Small logs, every cut of them and every byte of them changed to a few values, and what the log source says of each. What it
 // has to say, in the file stdout, was worked out from the log format.
+#![tactic(auto)]
+
 use rows::key::{FrameKey, LabelKey};
 use rows::reading::Reading;
 use rows::row::Row;

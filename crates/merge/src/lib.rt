@@ -1,4 +1,6 @@
 // The joined table of two logs, and the merge path that yields it.
+#![tactic(auto)]
+
 pub mod examples;
 pub mod nested_loops;
 #[cfg(test)]

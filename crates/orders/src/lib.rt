@@ -1,4 +1,6 @@
 // The orders of frame keys and of label keys: columns, and chains of them.
+#![tactic(auto)]
+
 pub mod chain;
 pub mod choices;
 pub mod column;

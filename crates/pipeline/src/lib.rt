@@ -1,4 +1,6 @@
 // What a join holds and has not handed over yet: entries in the block, buffered batches and their filter states.
+#![tactic(auto)]
+
 pub mod batch;
 pub mod batches;
 pub mod correction;

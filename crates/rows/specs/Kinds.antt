@@ -1,5 +1,5 @@
 -- The kinds of join and their numbers.
-use Rattle.std.specs.Prelude.{ℕ, zero, suc, Bool, true, false, Some, None, Option}
+use Rattle.std.specs.Prelude.{ℕ, zero, suc, Some, None, Option}
 use Rattle.rows.specs.declared.kind.Kind.{Kind}
 use Rattle.rows.specs.declared.kind.Kind.TheVariants.{Inner, Left, Right, Full}
 

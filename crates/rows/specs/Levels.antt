@@ -1,5 +1,5 @@
 -- Which levels were measured.
-use Rattle.std.specs.Prelude.{ℕ, Bool, true, false, cond, ℤ, pos, negsuc, Some, None, Option, ◌==◌}
+use Rattle.std.specs.Prelude.{cond, ℤ, pos, negsuc, Some, None, Option, ◌==◌}
 
 -- -128, which is `negsuc 127`, says that the level was not measured
 abbrev pub measured : ℤ → Option ℤ

@@ -1,5 +1,5 @@
 -- What a person reads of keys, readings, rows and records: the bytes of its text, which `None` leaves open.
-use Rattle.std.specs.Prelude.{ℕ, ◌/◌, ◌%◌, false, List, [], ◌∷◌, ◌++◌, ℤ, pos, negsuc, Some, None, codes, decimal, Option}
+use Rattle.std.specs.Prelude.{ℕ, ◌/◌, ◌%◌, false, List, [], ◌∷◌, ℤ, Some, None, codes, decimal, Option}
 use Prim.Native.String.{String}
 use Rattle.std.specs.Fmt.{signed_decimal, digit_glyph, option_append}
 use Rattle.rows.specs.declared.key.FrameKey.{FrameKey}

@@ -1,4 +1,6 @@
 // What the logs and the joined table are made of, and what an order of keys is.
+#![tactic(auto)]
+
 mod dash;
 mod hex;
 pub mod key;

@@ -1,4 +1,6 @@
 // Where records go.
+#![tactic(auto)]
+
 pub mod cap;
 pub mod list;
 pub mod sink;

@@ -68,7 +68,7 @@ impl Tally {
 impl Sink for Tally {
     ghost Value = { Counts };
 
-    ghost value = { λ s. record { pairs = s.pairs; left-alone = s.left_alone; right_alone = s.right_alone } };
+    ghost value = { λ s. record { pairs = s.pairs; left_alone = s.left_alone; right_alone = s.right_alone } };
 
     ghost fitting = { tally_fits };
 

@@ -1,4 +1,6 @@
 // Where rows come from.
+#![tactic(auto)]
+
 mod batch;
 pub mod clock;
 pub mod fault;

@@ -19,16 +19,16 @@ not_both (Err e) p q = true≢false (sym q)
 pub loop-b-init : goal.loop-b-init
 loop-b-init g c plain = record { wrote = writes_in_calls_nil g.W.Write.write_str_gives c.args.f.now.writer; plain = plain }
 
-pub returns-in-err-write-byte : goal.returns-in-err-write-byte
-returns-in-err-write-byte g c = record { prints = λ plain ok. absurd (not_both c.from-residual.result c.from-residual.ensures.0 ok) }
+pub returns-in_err-write_byte : goal.returns-in_err-write_byte
+returns-in_err-write_byte g c = record { prints = λ plain ok. absurd (not_both c.from_residual.result c.from_residual.ensures.0 ok) }
 
 pub loop-b-preserved : goal.loop-b-preserved
 loop-b-preserved g c plain =
     let before = c.loop-b.invariant plain in
     let h : c.loop-b.b-index < length c.args.bytes.now = omega arith in
-    has_written_of_eq g.W.Write.write_str_gives c.args.f.now (hexadecimal (take c.loop-b.b-index c.args.bytes.now) ++ hexadecimal (get_or c.args.bytes.now c.loop-b.b-index 0 ∷ [])) (hexadecimal (take (c.loop-b.b-index + 1) c.args.bytes.now)) c.write-byte.new.f
+    has_written_of_eq g.W.Write.write_str_gives c.args.f.now (hexadecimal (take c.loop-b.b-index c.args.bytes.now) ++ hexadecimal (get_or c.args.bytes.now c.loop-b.b-index 0 ∷ [])) (hexadecimal (take (c.loop-b.b-index + 1) c.args.bytes.now)) c.write_byte.new.f
     (one_more c.args.bytes.now c.loop-b.b-index h)
-    (has_written_append g.W.Write.write_str_gives c.args.f.now (hexadecimal (take c.loop-b.b-index c.args.bytes.now)) c.loop-b.f (hexadecimal (get_or c.args.bytes.now c.loop-b.b-index 0 ∷ [])) c.write-byte.new.f before (c.in-ok-write-byte.ensures.prints before.plain (refl {a = true})))
+    (has_written_append g.W.Write.write_str_gives c.args.f.now (hexadecimal (take c.loop-b.b-index c.args.bytes.now)) c.loop-b.f (hexadecimal (get_or c.args.bytes.now c.loop-b.b-index 0 ∷ [])) c.write_byte.new.f before (c.in_ok-write_byte.ensures.prints before.plain (refl {a = true})))
 
 pub returns : goal.returns
 returns g c = record {
