@@ -40,7 +40,7 @@ pub trait Sink {
 
 // Takes the records in sequence, up to the first that does not fit, and answers how many it took.
 pub fn take_all<S: Sink>(sink: &mut S, records: &[Record]) -> usize
-    ensures { TookFirst fitting after (value sink.old) records.now result (value sink.new) }
+    ensures { TookFirst S.fitting S.after (S.value sink.old) records.now result (S.value sink.new) }
 {
     for (i, x) in records.iter().enumerate() {
         if sink.take(*x).is_err() {
