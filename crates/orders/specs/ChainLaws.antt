@@ -1,6 +1,6 @@
 -- Proof that a chain of two orders keeps the laws of an order. It stands in specs/ because an order gives the proof of its
 -- laws as a member; the statement of `chain_laws` says all that it does.
-use Rattle.std.specs.Prelude.{◌≡◌, ℕ, ◌≤◌, refl}
+use Rattle.std.specs.Prelude.{◌≡◌, ◌≤◌, refl}
 use Rattle.std.specs.declared.cmp.Ordering.TheVariants.{Less, Equal, Greater}
 use Rattle.std.specs.declared.cmp.Ordering.{Ordering}
 use Rattle.std.proofs.Common.{sym, ap, subst, ◌∙◌, arith}

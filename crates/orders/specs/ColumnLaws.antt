@@ -1,19 +1,18 @@
 -- Proof that a column keeps the laws of an order, for every choice. It stands in specs/ because an order gives the proof of
 -- its laws as a member; the statement of `column_laws` says all that it does.
-use Rattle.std.specs.Prelude.{◌≡◌, ℕ, ◌≤◌, Some, None, Option, refl}
+use Rattle.std.specs.Prelude.{◌≡◌, ◌≤◌, Some, None, Option, refl}
 use Rattle.std.specs.declared.cmp.Ordering.TheVariants.{Less, Equal, Greater}
 use Rattle.std.specs.declared.cmp.Ordering.{Ordering}
-use Rattle.std.proofs.Common.{sym, ap, subst, ◌∙◌, arith}
+use Rattle.std.proofs.Common.{sym, ap, subst, arith}
 use Rattle.orders.specs.declared.choices.Choices.{Choices}
 use Rattle.orders.specs.declared.choices.Direction.{Direction}
 use Rattle.orders.specs.declared.choices.Direction.TheVariants.{Up, Down}
 use Rattle.orders.specs.declared.choices.MissingPlace.{MissingPlace}
 use Rattle.orders.specs.declared.choices.MissingPlace.TheVariants.{First, Last}
 use Rattle.orders.specs.declared.choices.MissingEquals.{MissingEquals}
-use Rattle.orders.specs.declared.choices.MissingEquals.TheVariants.{Missing, Nothing}
 use Rattle.rows.specs.Order.{rank, turned, Rises, Laws}
 use Rattle.orders.specs.Values.{Total}
-use Rattle.orders.specs.Choices.{directed, missing_against, two_missing, by_column, column_within, column_across}
+use Rattle.orders.specs.Choices.{missing_against, two_missing, by_column, column_within, column_across}
 use Rattle.orders.specs.TotalLaws.{turned_twice, rank_most, rises_left, falls_right}
 
 one_side : (p : MissingPlace) → rank (missing_against p) ≤ 1 → rank (turned (missing_against p)) ≤ 1 → ⊥

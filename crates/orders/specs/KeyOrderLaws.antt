@@ -5,7 +5,6 @@ use Rattle.orders.specs.declared.choices.Choices.{Choices}
 use Rattle.orders.specs.declared.choices.Direction.{Direction}
 use Rattle.orders.specs.declared.choices.MissingPlace.TheVariants.{Last}
 use Rattle.orders.specs.declared.choices.MissingEquals.TheVariants.{Nothing}
-use Rattle.rows.specs.declared.key.FrameKey.{FrameKey}
 use Rattle.rows.specs.Order.{Laws}
 use Rattle.orders.specs.Values.{by_size, by_bytes}
 use Rattle.orders.specs.Choices.{column_within, column_across}

@@ -1,6 +1,6 @@
 -- Proofs that numbers and lists of bytes keep what a column asks of its values. They stand in specs/ because a column gives
 -- the proof as a member; their statements say all that they do.
-use Rattle.std.specs.Prelude.{◌≡◌, ℕ, ◌<◌, ◌≤◌, List, [], ◌∷◌, refl}
+use Rattle.std.specs.Prelude.{◌≡◌, ℕ, ◌≤◌, List, [], ◌∷◌, refl}
 use Rattle.std.specs.declared.cmp.Ordering.TheVariants.{Less, Equal, Greater}
 use Rattle.std.specs.declared.cmp.Ordering.{Ordering}
 use Rattle.std.proofs.Common.{sym, ap, subst, ◌∙◌, arith}
@@ -8,7 +8,7 @@ use Rattle.std.specs.Cmp as keys
 use Rattle.std.specs.Cmp.{nat_cmp_total, alike_right}
 use Rattle.std.specs.Cmp.Lexicographic.{slice_cmp, lists_total}
 use Rattle.std.specs.Ordering.{ordering_reverse, ordering_then}
-use Rattle.rows.specs.Order.{rank, turned, Rises}
+use Rattle.rows.specs.Order.{rank, turned}
 use Rattle.orders.specs.Values.{Total, by_size, by_bytes}
 use Rattle.std.specs.Ordering as std_orderings
 
@@ -18,14 +18,14 @@ reversed_turned Equal = refl
 reversed_turned Greater = refl
 
 -- what the standard library calls a total order is one here
-total_from : {V : Type 0} {R : V → V → Ordering → Type 0} (o : keys.IsTotalOrder R) → Total R
-total_from {V} o = record { turns_round = λ x y. o.antisymm y x ∙ reversed_turned (o.cmp x y); passes_on = λ x y z h k. go x y z (o.cmp x y) (o.cmp y z) refl refl h k }
+total_from : {V : Type 0} {R : V → V → Ordering} → keys.IsTotalOrder R → Total R
+total_from {V} {R} o = record { turns_round = λ x y. o.antisymm y x ∙ reversed_turned (R x y); passes_on = λ x y z h k. go x y z (R x y) (R y z) refl refl h k }
   where
-    go : (x y z : V) (p q : Ordering) → o.cmp x y ≡ p → o.cmp y z ≡ q → rank p ≤ 1 → rank q ≤ 1 → rank (o.cmp x z) ≤ 1
+    go : (x y z : V) (p q : Ordering) → R x y ≡ p → R y z ≡ q → rank p ≤ 1 → rank q ≤ 1 → rank (R x z) ≤ 1
     go x y z Less Less e f h k = subst (λ r. rank r ≤ 1) (sym (o.trans x y z e f)) h
     go x y z Less Equal e f h k = subst (λ r. rank r ≤ 1) (sym e ∙ alike_right o y z x f) h
     go x y z Less Greater e f h k = absurd (omega arith)
-    go x y z Equal q e f h k = subst (λ r. rank r ≤ 1) (sym (o.alike x y z e ∙ f)) k
+    go x y z Equal q e f h k = subst (λ r. rank r ≤ 1) (sym (o.congr x y z e ∙ f)) k
     go x y z Greater q e f h k = absurd (omega arith)
 
 pub by_size_total : Total by_size
