@@ -3,7 +3,7 @@ ghost use Rattle.std.specs.Prelude.{◌≡◌, ◌^◌, ◌≤◌, ◌++◌, map
 ghost use Rattle.merge.specs.declared.nested_loops.TableError.TheVariants.{Memory};
 ghost use Rattle.merge.specs.Joined.{filter_of, lets_through, passes as rows_pass, joined};
 ghost use Rattle.merge.specs.Places.{RefusesTooLong};
-ghost use Rattle.merge.specs.Sides.{left_of, right_of, is_outer, is_full, oriented as oriented-by};
+ghost use Rattle.merge.specs.Sides.{left_of, right_of, is_outer, is_full, oriented as oriented_by};
 ghost use Rattle.merge.specs.Table.{meets_buffered, meets_streamed, pairs_of, all_pairs, lone_streamed, lone_buffered, table as table_of};
 
 use filters::filter::Filter;
@@ -42,7 +42,7 @@ pub fn joined_table<'a, O: KeyOrder, F: Filter>(
     left: &'a [Row<O::Key>],
     right: &'a [Row<O::Key>],
 ) -> Result<Vec<Record>, TableError>
-    ensures table { IfOk result (λ v. v.items ≡ joined kind (across order.now) (filter_of says filter.now) left.now right.now) }
+    ensures table { IfOk result (λ v. v.items ≡ joined kind (O.across order.now) (filter_of F.says filter.now) left.now right.now) }
     ensures refusal { RefusesTooLong result (length left.now) (length right.now) }
 {
     if left.len() > MOST_ROWS || right.len() > MOST_ROWS {
@@ -93,7 +93,7 @@ struct Sides<'a, O: KeyOrder, F: Filter> {
 impl<'a, O: KeyOrder, F: Filter> Sides<'a, O, F> {
     // Whether there is no filter or it says yes; it is asked of the left and the right reading.
     fn lets_through(&self, streamed: &Row<O::Key>, buffered: &Row<O::Key>) -> bool
-        ensures { result ≡ lets_through (filter_of says self.now.filter.now) (left_of self.now.kind streamed.now.reading buffered.now.reading) (right_of self.now.kind streamed.now.reading buffered.now.reading) }
+        ensures { result ≡ lets_through (filter_of F.says self.now.filter.now) (left_of self.now.kind streamed.now.reading buffered.now.reading) (right_of self.now.kind streamed.now.reading buffered.now.reading) }
     {
         match self.filter {
             None => true,
@@ -108,7 +108,7 @@ impl<'a, O: KeyOrder, F: Filter> Sides<'a, O, F> {
 
     // Whether a streamed and a buffered row pass.
     fn passes(&self, streamed: &Row<O::Key>, buffered: &Row<O::Key>) -> bool
-        ensures { result ≡ rows_pass self.now.kind (across self.now.order.now) (filter_of says self.now.filter.now) streamed.now buffered.now }
+        ensures { result ≡ rows_pass self.now.kind (O.across self.now.order.now) (filter_of F.says self.now.filter.now) streamed.now buffered.now }
     {
         match self.order.compare_across(&streamed.key, &buffered.key) {
             Ordering::Less | Ordering::Greater => false,
@@ -118,7 +118,7 @@ impl<'a, O: KeyOrder, F: Filter> Sides<'a, O, F> {
 
     // Whether a buffered row passes with x.
     fn meets_buffered(&self, x: &Row<O::Key>) -> bool
-        ensures { result ≡ meets_buffered (rows_pass self.now.kind (across self.now.order.now) (filter_of says self.now.filter.now)) x.now self.now.buffered.now }
+        ensures { result ≡ meets_buffered (rows_pass self.now.kind (O.across self.now.order.now) (filter_of F.says self.now.filter.now)) x.now self.now.buffered.now }
     {
         for y in self.buffered {
             if self.passes(x, y) {
@@ -130,7 +130,7 @@ impl<'a, O: KeyOrder, F: Filter> Sides<'a, O, F> {
 
     // Whether a streamed row passes with y.
     fn meets_streamed(&self, y: &Row<O::Key>) -> bool
-        ensures { result ≡ meets_streamed (rows_pass self.now.kind (across self.now.order.now) (filter_of says self.now.filter.now)) self.now.streamed.now y.now }
+        ensures { result ≡ meets_streamed (rows_pass self.now.kind (O.across self.now.order.now) (filter_of F.says self.now.filter.now)) self.now.streamed.now y.now }
     {
         for x in self.streamed {
             if self.passes(x, y) {
@@ -142,7 +142,7 @@ impl<'a, O: KeyOrder, F: Filter> Sides<'a, O, F> {
 
     // The record of the table, of one that names the streamed row as its left one.
     fn oriented(&self, x: Record) -> Record
-        ensures { result ≡ oriented-by self.now.kind x }
+        ensures { result ≡ oriented_by self.now.kind x }
     {
         match self.kind {
             Kind::Right => match x {
@@ -162,7 +162,7 @@ impl<'a, O: KeyOrder, F: Filter> Sides<'a, O, F> {
         table: &mut Vec<Record>,
     ) -> Result<(), AllocError>
         requires { length self.now.buffered.now ≤ 2 ^ 32 }
-        ensures { OnOk result (table.new.items ≡ table.old.items ++ map (oriented-by self.now.kind) (pairs_of (rows_pass self.now.kind (across self.now.order.now) (filter_of says self.now.filter.now)) i x.now 0 self.now.buffered.now)) }
+        ensures { OnOk result (table.new.items ≡ table.old.items ++ map (oriented_by self.now.kind) (pairs_of (rows_pass self.now.kind (O.across self.now.order.now) (filter_of F.says self.now.filter.now)) i x.now 0 self.now.buffered.now)) }
     {
         for (j, y) in self.buffered.iter().enumerate() {
             if self.passes(x, y) {
@@ -175,7 +175,7 @@ impl<'a, O: KeyOrder, F: Filter> Sides<'a, O, F> {
     // Adds all passing pairs.
     fn add_pairs(&self, table: &mut Vec<Record>) -> Result<(), AllocError>
         requires { (length self.now.streamed.now ≤ 2 ^ 32) × (length self.now.buffered.now ≤ 2 ^ 32) }
-        ensures { OnOk result (table.new.items ≡ table.old.items ++ map (oriented-by self.now.kind) (all_pairs (rows_pass self.now.kind (across self.now.order.now) (filter_of says self.now.filter.now)) 0 self.now.streamed.now 0 self.now.buffered.now)) }
+        ensures { OnOk result (table.new.items ≡ table.old.items ++ map (oriented_by self.now.kind) (all_pairs (rows_pass self.now.kind (O.across self.now.order.now) (filter_of F.says self.now.filter.now)) 0 self.now.streamed.now 0 self.now.buffered.now)) }
     {
         for (i, x) in self.streamed.iter().enumerate() {
             self.add_pairs_of(i as u32, x, table)?;
@@ -186,7 +186,7 @@ impl<'a, O: KeyOrder, F: Filter> Sides<'a, O, F> {
     // Adds the streamed rows without a passing pair.
     fn add_lone_streamed(&self, table: &mut Vec<Record>) -> Result<(), AllocError>
         requires { length self.now.streamed.now ≤ 2 ^ 32 }
-        ensures { OnOk result (table.new.items ≡ table.old.items ++ map (oriented-by self.now.kind) (lone_streamed (rows_pass self.now.kind (across self.now.order.now) (filter_of says self.now.filter.now)) 0 self.now.streamed.now self.now.buffered.now)) }
+        ensures { OnOk result (table.new.items ≡ table.old.items ++ map (oriented_by self.now.kind) (lone_streamed (rows_pass self.now.kind (O.across self.now.order.now) (filter_of F.says self.now.filter.now)) 0 self.now.streamed.now self.now.buffered.now)) }
     {
         for (i, x) in self.streamed.iter().enumerate() {
             if !self.meets_buffered(x) {
@@ -199,7 +199,7 @@ impl<'a, O: KeyOrder, F: Filter> Sides<'a, O, F> {
     // Adds the buffered rows without a passing pair.
     fn add_lone_buffered(&self, table: &mut Vec<Record>) -> Result<(), AllocError>
         requires { length self.now.buffered.now ≤ 2 ^ 32 }
-        ensures { OnOk result (table.new.items ≡ table.old.items ++ map (oriented-by self.now.kind) (lone_buffered (rows_pass self.now.kind (across self.now.order.now) (filter_of says self.now.filter.now)) self.now.streamed.now 0 self.now.buffered.now)) }
+        ensures { OnOk result (table.new.items ≡ table.old.items ++ map (oriented_by self.now.kind) (lone_buffered (rows_pass self.now.kind (O.across self.now.order.now) (filter_of F.says self.now.filter.now)) self.now.streamed.now 0 self.now.buffered.now)) }
     {
         for (j, y) in self.buffered.iter().enumerate() {
             if !self.meets_streamed(y) {
@@ -212,7 +212,7 @@ impl<'a, O: KeyOrder, F: Filter> Sides<'a, O, F> {
     // The table: the passing pairs, then the lone rows that the kind lists.
     fn table(&self, heap: Global) -> Result<Vec<Record>, AllocError>
         requires { (length self.now.streamed.now ≤ 2 ^ 32) × (length self.now.buffered.now ≤ 2 ^ 32) }
-        ensures { IfOk result (λ v. v.items ≡ map (oriented-by self.now.kind) (table_of (rows_pass self.now.kind (across self.now.order.now) (filter_of says self.now.filter.now)) (is_outer self.now.kind) (is_full self.now.kind) self.now.streamed.now self.now.buffered.now)) }
+        ensures { IfOk result (λ v. v.items ≡ map (oriented_by self.now.kind) (table_of (rows_pass self.now.kind (O.across self.now.order.now) (filter_of F.says self.now.filter.now)) (is_outer self.now.kind) (is_full self.now.kind) self.now.streamed.now self.now.buffered.now)) }
     {
         let mut table = Vec::new(heap);
         self.add_pairs(&mut table)?;

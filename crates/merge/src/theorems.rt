@@ -12,5 +12,5 @@ pub fn merging_yields_the_joined_table<O: KeyOrder, F: Filter>(
     filter: &Option<F>,
     kind: Kind,
 )
-    ensures { MergingYieldsTheJoinedTable (within order.now) (across order.now) (filter_of says filter.now) kind }
+    ensures { MergingYieldsTheJoinedTable (O.within order.now) (O.across order.now) (filter_of F.says filter.now) kind }
 {}

@@ -6,13 +6,13 @@ use Rattle.merge.specs.Sides.{oriented}
 use Rattle.merge.specs.Joined.{filter_of, passes}
 use Rattle.merge.proofs.Loops.{added_more, added_all, added_if, added_unless}
 use Rattle.merge.proofs.nested_loops.Sides.add_lone_buffered.Goals as goal
-use Rattle.merge.proofs.nested_loops.Sides.add_lone_buffered.Goals.{then-not-meets-streamed+in-ok-push, else-not-meets-streamed}
+use Rattle.merge.proofs.nested_loops.Sides.add_lone_buffered.Goals.{then-not-meets_streamed+in_ok-push, else-not-meets_streamed}
 
 pub loop-j-preserved : goal.loop-j-preserved
 loop-j-preserved g c = added_more (oriented c.args.self.now.kind) (λ j b. lone_buffered (passes c.args.self.now.kind (g.O.KeyOrder.across c.args.self.now.order.now) (filter_of g.F.Filter.says c.args.self.now.filter.now)) c.args.self.now.streamed.now j b) (λ j y. when (not (meets_streamed (passes c.args.self.now.kind (g.O.KeyOrder.across c.args.self.now.order.now) (filter_of g.F.Filter.says c.args.self.now.filter.now)) c.args.self.now.streamed.now y)) (RightAlone j ∷ [])) (λ _. refl) (λ _ _ _. refl) c.args.self.now.buffered.now c.loop-j.j (vec_items c.loop-j.table) _ c.loop-j.invariant c.y-item.result c.loop-j-test.true c.y-item.is _
-    (elim c.if-not-meets-streamed.branch [
-      | then-not-meets-streamed+in-ok-push w ↦ added_if (oriented c.args.self.now.kind) (RightAlone c.loop-j.j ∷ []) (vec_items c.loop-j.table) _ _ (ap not w.if-not-meets-streamed.ensures) _ (ap vec_items w.table-is) (w.in-ok-push.ensures.items ∙ ap (λ (r : Record). vec_items c.loop-j.table ++ r ∷ []) w.oriented.ensures)
-      | else-not-meets-streamed w ↦ added_unless (oriented c.args.self.now.kind) (RightAlone c.loop-j.j ∷ []) (vec_items c.loop-j.table) _ _ (ap not w.if-not-meets-streamed.ensures) (ap vec_items w.table-is)
+    (elim c.if-not-meets_streamed.branch [
+      | then-not-meets_streamed+in_ok-push w ↦ added_if (oriented c.args.self.now.kind) (RightAlone c.loop-j.j ∷ []) (vec_items c.loop-j.table) _ _ (ap not w.if-not-meets_streamed.ensures) _ (ap vec_items w.table-is) (w.in_ok-push.ensures.items ∙ ap (λ (r : Record). vec_items c.loop-j.table ++ r ∷ []) w.oriented.ensures)
+      | else-not-meets_streamed w ↦ added_unless (oriented c.args.self.now.kind) (RightAlone c.loop-j.j ∷ []) (vec_items c.loop-j.table) _ _ (ap not w.if-not-meets_streamed.ensures) (ap vec_items w.table-is)
     ])
 
 pub returns : goal.returns
