@@ -119,21 +119,21 @@ module _ {X : Type 0} (within across : X → X → Ordering) (passes : X → X �
   place_of (at p i s j b) = i
 
   -- a turn, and then what comes from where it leads
-  abbrev Goes_on : State X → Turn X → Type 0
-  Goes_on t u = (l : List Record) → Later (place_of u.next) l → Later (place_of t) (u.gives ++ l)
+  abbrev GoesOn : State X → Turn X → Type 0
+  GoesOn t u = (l : List Record) → Later (place_of u.next) l → Later (place_of t) (u.gives ++ l)
 
-  row_goes_on : (p : List X) (i : ℕ) (x : X) (s : List X) (j : ℕ) (b : List X) → Goes_on (at p i (x ∷ s) j b) (pass_row within across passes keeps_streamed false p i x s j b)
+  row_goes_on : (p : List X) (i : ℕ) (x : X) (s : List X) (j : ℕ) (b : List X) → GoesOn (at p i (x ∷ s) j b) (pass_row within across passes keeps_streamed false p i x s j b)
   row_goes_on p i x s j b l h =
       let r = row_in_sequence passes keeps_streamed i x j (matched within across x b) in
       (sequence_later i _ l r.0 r.1 h.0 h.1, All-append _ _ l (All-weaker _ _ (at_is_from i) _ r.1) (All-weaker _ _ (from_later i) l h.1))
 
-  turn_goes_on : (t : State X) → Goes_on t (turn within across passes keeps_streamed false t)
+  turn_goes_on : (t : State X) → GoesOn t (turn within across passes keeps_streamed false t)
   turn_goes_on (at p i [] j []) l h = h
   turn_goes_on (at p i [] j (y ∷ b)) l h = h
   turn_goes_on (at p i (x ∷ s) j []) l h = row_goes_on p i x s j [] l h
   turn_goes_on (at p i (x ∷ s) j (y ∷ b)) l h = go (is_after (across x y)) l h
     where
-      go : (t : Bool) → Goes_on (at p i (x ∷ s) j (y ∷ b)) (cond t (pass_run within across passes keeps_streamed false p i (x ∷ s) j y b) (pass_row within across passes keeps_streamed false p i x s j (y ∷ b)))
+      go : (t : Bool) → GoesOn (at p i (x ∷ s) j (y ∷ b)) (cond t (pass_run within across passes keeps_streamed false p i (x ∷ s) j y b) (pass_row within across passes keeps_streamed false p i x s j (y ∷ b)))
       go true l h = h
       go false l h = row_goes_on p i x s j (y ∷ b) l h
 
