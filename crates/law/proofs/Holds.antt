@@ -1,13 +1,13 @@
 -- The invariant of the machine, and the law.
-use Rattle.std.proofs.Common.{◌≡◌, ℕ, zero, suc, ◌+◌, ◌-◌, ◌<◌, ◌≤◌, min, Bool, true, false, cond, not, ◌&&◌, ◌||◌, leb, ◌⊎◌, List, [], ◌∷◌, ◌++◌, length, get_or, take, replicate, Some, None, Option, Ordering, Less, Equal, Greater, sym, refl, ap, ◌∙◌, subst, inl, inr, true≢false, append_assoc, append-nil, add-one, arith, length-append}
+use Rattle.std.proofs.Common.{◌≡◌, ℕ, zero, suc, ◌+◌, ◌-◌, ◌<◌, ◌≤◌, min, Bool, true, false, cond, not, ◌&&◌, leb, ◌⊎◌, List, [], ◌∷◌, ◌++◌, length, get_or, take, replicate, Some, None, Option, Ordering, Less, Equal, Greater, sym, refl, ap, ◌∙◌, subst, inl, inr, true≢false, append_assoc, append-nil, add-one, arith, length-append}
 use mathlib.Core.List.{nil≢cons}
 use mathlib.Core.Bool.{false≢true}
 use Rattle.std.specs.List.{ContainsAt as Has, AllByRecursion as All}
-use Rattle.std.proofs.ByRecursion.{All-weaker, All-push, All-append}
+use Rattle.std.proofs.ByRecursion.{All-weaker, All-push}
 use Rattle.std.proofs.lemmas.Bool.{and_parts, or_right, leb-true}
-use Rattle.rows.specs.Order.{Laws, rank, is_same, is_after}
+use Rattle.rows.specs.Order.{Laws, rank, is_same}
 use Rattle.merge.specs.Table.{when, meets_buffered, meets_streamed, pairs_of, lone_buffered}
-use Rattle.merge.specs.Runs.{more_of_run, past_run, Leads, Sorted, runs}
+use Rattle.merge.specs.Runs.{Sorted, runs}
 use Rattle.merge.specs.Path.{matched as meeting, at, Turn, pass_row, pass_run, turn, State as path_state, Move, one_turn, one_row, one_run, tally, after, start, to_come}
 use Rattle.merge.specs.Decided.{complete, decided, Follows, is_some, extended}
 use Rattle.merge.proofs.Distincts.{all_front, distinct_front, distinct_perm, table_distinct}
@@ -19,18 +19,18 @@ use mathlib.Core.List.{Permᴰ}
 use Rattle.merge.proofs.Flags.{all_back}
 use Rattle.merge.proofs.Steps.{matched_front, shuns_past, turn_keeps}
 use Rattle.merge.proofs.Orders.{past_is_after, run_is_same}
-use Rattle.merge.proofs.Stages.{Stage, stage, act, take_turn, read_streamed, read_buffered}
+use Rattle.merge.proofs.Stages.{Stage, stage, take_turn, read_streamed, read_buffered}
 use Rattle.rows.specs.declared.record.Record.{Record}
-use Rattle.rows.specs.declared.record.Record.TheVariants.{Pair, LeftAlone, RightAlone}
+use Rattle.rows.specs.declared.record.Record.TheVariants.{LeftAlone}
 use Rattle.merge.proofs.Stages.{Good, FreshAt, good_act, fresh_act, good_blank}
 use Rattle.merge.proofs.Prefixes.{turn_alike, with_more}
 use Rattle.merge.proofs.Steps.{Shuns}
-use Rattle.law.specs.Pipe.{Entry, fixed, judged, Mark, unseen, Pipe, pipe, settled, failures, alones, marking, places, note, part, marked, mark_at, freeze, freeze_all, flush, push}
-use Rattle.law.specs.Machine.{Side, on_streamed, on_buffered, disordered, oversized, overlong, crowded, from_source, Answer, more, waiting, finished, failed, Outcome, going, gives, answered, most_rows, most_batches, stops, after_fetch, fetch_checked, fetch_taken, fetch, load_checked, load, seed, extend, go_on, close, compare, compared, pair, pass, step, micro, lone_row, run_left, after_row, opened, Turned, answers, steps, hands, pass_run as run_passed, turn as turn_step, Setting, Closing, ended, faulted, Fault, Phase, fetching, seeding, extending, closing, turning, passing, done, pairing, stopped, Streamed, streamed, Buffered, buffered, Counts, counts, State, state, total_size, base_of, last_of, disorder, held_more, is_full, most_handed}
-use Rattle.law.specs.Law.{Ample, in_block, mores, Runs, none, turned, reported, Lawful, Law, joined, streamed_over, buffered_over, streamed_read, buffered_read, Goes_on, turns_of, one_more, rows_in, is_over, over, streamed_failed, buffered_failed, Led, Fair, passes}
+use Rattle.law.specs.Pipe.{Entry, fixed, judged, Mark, unseen, Pipe, pipe, settled, failures, alones, marking, places, note, part, marked, mark_at, freeze, flush, push}
+use Rattle.law.specs.Machine.{on_streamed, on_buffered, disordered, oversized, overlong, crowded, from_source, Answer, waiting, finished, failed, Outcome, going, gives, answered, most_rows, most_batches, stops, after_fetch, fetch_checked, fetch_taken, fetch, load_checked, load, seed, extend, go_on, close, compare, compared, pass, step, micro, lone_row, opened, Turned, answers, steps, hands, pass_run as run_passed, turn as turn_step, Setting, Closing, ended, faulted, Fault, Phase, fetching, seeding, extending, closing, turning, passing, done, pairing, stopped, Streamed, streamed, Buffered, buffered, Counts, counts, State, state, total_size, base_of, last_of, disorder, held_more, is_full, most_handed}
+use Rattle.law.specs.Law.{Ample, in_block, mores, Runs, none, turned, reported, Lawful, Law, joined, Goes_on, turns_of, one_more, rows_in, is_over, over, streamed_failed, buffered_failed, Led, Fair, passes}
 use Rattle.law.proofs.Totals.{total, total_append, Same, same_from_perm, perm_from_same}
-use Rattle.law.proofs.Pipes.{Own, ModeOf, parts, From, apart_cut, worth_apart, Moded, mode_empty, Ranged, worth, worth_of, marks_of, OnlyDue, Frozen, frozen, flushed, Grown, grown, size_of, noted_of, unfrozen_of, due_of, unseens, unseens_total, unseen_few, length_total, low, noted_size, Pushed, pushed, Parted, parted, moded_passed, worth_none, noted_worth, noted_mode, failures_total, marking_longer, more_range}
-use Rattle.law.proofs.Rows.{Level, Stop, run_is, group_of, standing, Unmet, unmet_fresh, checked, length_standing, run_worth, standing_append, standing_same, unmet_push, mark_of, mark_push, mark_middle, group_push, own_group, settled_group, pairs_append, plain_group, sorted_on, noted_unseen}
+use Rattle.law.proofs.Pipes.{Own, ModeOf, parts, From, apart_cut, worth_apart, Moded, mode_empty, Ranged, worth, worth_of, marks_of, OnlyDue, Frozen, frozen, flushed, Grown, grown, size_of, noted_of, unfrozen_of, due_of, unseens, unseens_total, unseen_few, length_total, low, Pushed, pushed, Parted, parted, moded_passed, worth_none, noted_worth, noted_mode, failures_total, marking_longer, more_range}
+use Rattle.law.proofs.Rows.{Level, Stop, run_is, group_of, standing, Unmet, unmet_fresh, checked, length_standing, run_worth, standing_append, standing_same, unmet_push, mark_of, mark_push, mark_middle, group_push, settled_group, pairs_append, plain_group, sorted_on, noted_unseen}
 
 -- what no code holds: the rows read of each log and those of a failing batch; the streamed rows passed; the buffered rows read and not passed;
 -- what the turns gave; the marks of the rows held before the run and of the run; the pairs of the current row in the pipe

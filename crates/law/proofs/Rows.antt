@@ -1,21 +1,20 @@
 -- Runs, groups of pairs and marks, against the merge path.
-use Rattle.std.proofs.Common.{◌≡◌, ℕ, zero, suc, ◌+◌, ◌-◌, ◌<◌, ◌≤◌, Bool, true, false, cond, not, ◌&&◌, ◌||◌, eqb, ◌⊎◌, List, [], ◌∷◌, ◌++◌, length, replicate, Some, None, Option, Ordering, Less, Equal, Greater, sym, refl, ap, ◌∙◌, subst, inl, inr, true≢false, append_assoc, append-nil, arith, length-append}
-use mathlib.Core.Bool.{false≢true}
+use Rattle.std.proofs.Common.{◌≡◌, ℕ, zero, suc, ◌+◌, ◌≤◌, Bool, true, false, cond, not, ◌&&◌, ◌||◌, eqb, ◌⊎◌, List, [], ◌∷◌, ◌++◌, length, Some, None, Option, Ordering, Less, Equal, Greater, sym, refl, ap, ◌∙◌, inl, inr, true≢false, append_assoc, append-nil, arith}
 use Rattle.std.specs.List.{AllByRecursion as All}
-use Rattle.std.proofs.ByRecursion.{All-weaker, All-push}
+use Rattle.std.proofs.ByRecursion.{All-weaker}
 use Rattle.std.proofs.lemmas.Bool.{eq-eqb}
 use Rattle.rows.specs.Order.{Laws, rank, is_same, is_after}
 use Rattle.merge.specs.Table.{when, meets_buffered, meets_streamed, pairs_of, lone_buffered}
-use Rattle.merge.specs.Runs.{more_of_run, past_run, Leads, Sorted}
+use Rattle.merge.specs.Runs.{more_of_run, past_run, Sorted}
 use Rattle.rows.specs.declared.record.Record.{Record}
 use Rattle.rows.specs.declared.record.Record.TheVariants.{Pair, LeftAlone, RightAlone}
 use Rattle.merge.proofs.Orders.{sums}
 use Rattle.merge.proofs.Steps.{Shuns}
 use Rattle.merge.proofs.Flags.{meets_push, meets_none}
-use Rattle.law.specs.Pipe.{Entry, fixed, judged, Mark, unseen, failing, met, marked, mark_at, marking, goes_on, corrected, plain, settled, alones, places, failures}
+use Rattle.law.specs.Pipe.{Entry, judged, Mark, unseen, failing, met, marked, mark_at, corrected, plain, settled, alones, places, failures}
 use Rattle.law.specs.Machine.{disorder, last_of}
 use Rattle.law.specs.Law.{Goes_on}
-use Rattle.law.proofs.Totals.{total, total_append}
+use Rattle.law.proofs.Totals.{total}
 use Rattle.law.proofs.Pipes.{Own, unseens}
 
 -- ---- order

@@ -1,5 +1,5 @@
 -- The law of all runs of a join, from the opened state on.
-use Rattle.std.specs.Prelude.{◌≡◌, ℕ, zero, suc, ◌+◌, ◌-◌, ◌≤◌, min, Bool, true, false, cond, ◌&&◌, ◌⊎◌, List, [], ◌∷◌, ◌++◌, length, take, Some, None, Option}
+use Rattle.std.specs.Prelude.{◌≡◌, ℕ, ◌+◌, ◌-◌, ◌≤◌, min, Bool, true, false, ◌&&◌, ◌⊎◌, List, [], ◌∷◌, ◌++◌, length, take, Some, None, Option}
 use Rattle.std.specs.declared.cmp.Ordering.{Ordering}
 use Rattle.std.specs.List.{ContainsAt as Has, AllByRecursion as All}
 use Rattle.std.specs.List.Sorted.{IsPermutation}
@@ -9,8 +9,8 @@ use Rattle.merge.specs.Runs.{Leads, Sorted, runs}
 use Rattle.merge.specs.Path.{tally, one_row, one_run, start}
 use Rattle.merge.specs.Decided.{Follows}
 use Rattle.rows.specs.declared.record.Record.{Record}
-use Rattle.law.specs.Pipe.{Pipe, pipe}
-use Rattle.law.specs.Machine.{Setting, Side, on_streamed, on_buffered, Closing, ended, faulted, Fault, disordered, oversized, overlong, crowded, from_source, Answer, more, waiting, finished, failed, Phase, fetching, seeding, extending, closing, turning, passing, done, pairing, stopped, Streamed, streamed, Buffered, buffered, Counts, counts, State, state, Outcome, Turned, opened, last_of, most_handed}
+use Rattle.law.specs.Pipe.{pipe}
+use Rattle.law.specs.Machine.{Setting, on_streamed, on_buffered, Closing, ended, faulted, disordered, oversized, overlong, crowded, from_source, Answer, more, waiting, finished, failed, Phase, fetching, seeding, extending, closing, turning, passing, done, pairing, stopped, streamed, buffered, counts, State, state, Turned, opened, last_of, most_handed}
 
 -- all rows of a list of batches
 abbrev pub rows_in : {X : Type 0} → List (List X) → List X

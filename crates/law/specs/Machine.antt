@@ -1,12 +1,12 @@
 -- The join as a machine of small steps.
-use Rattle.std.specs.Prelude.{◌≡◌, ℕ, zero, suc, ◌+◌, ◌-◌, min, Bool, true, false, cond, not, ◌&&◌, List, [], ◌∷◌, ◌++◌, length, replicate, Some, None, Option, nat_le}
+use Rattle.std.specs.Prelude.{◌≡◌, ℕ, suc, ◌+◌, ◌-◌, min, Bool, true, false, cond, not, ◌&&◌, List, [], ◌∷◌, ◌++◌, length, replicate, Some, None, Option, nat_le}
 use Rattle.std.specs.declared.cmp.Ordering.TheVariants.{Less, Equal, Greater}
 use Rattle.std.specs.declared.cmp.Ordering.{Ordering}
 use Rattle.rows.specs.Order.{is_same, is_after}
 use Rattle.merge.specs.Table.{when}
 use Rattle.rows.specs.declared.record.Record.{Record}
-use Rattle.rows.specs.declared.record.Record.TheVariants.{Pair, LeftAlone, RightAlone}
-use Rattle.law.specs.Pipe.{Entry, fixed, judged, Mark, unseen, Pipe, pipe, places, freeze, flush, push, note, part}
+use Rattle.rows.specs.declared.record.Record.TheVariants.{LeftAlone}
+use Rattle.law.specs.Pipe.{fixed, judged, unseen, Pipe, pipe, places, freeze, flush, push, note, part}
 
 -- ---- plain data
 

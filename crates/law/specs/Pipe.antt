@@ -1,5 +1,5 @@
 -- What stands between a turn and the sink: unfrozen pairs and lone rows, the block, and the records that are due.
-use Rattle.std.specs.Prelude.{ℕ, zero, suc, ◌+◌, ◌-◌, Bool, true, false, cond, not, ltb, List, [], ◌∷◌, ◌++◌, map, length, take, drop, filter, ◌==◌, nat_le, nat_lt}
+use Rattle.std.specs.Prelude.{ℕ, zero, suc, ◌+◌, ◌-◌, Bool, true, false, cond, not, List, [], ◌∷◌, ◌++◌, length, take, drop, filter, ◌==◌, nat_le, nat_lt}
 use Rattle.merge.specs.Table.{when}
 use Rattle.rows.specs.declared.record.Record.{Record}
 use Rattle.rows.specs.declared.record.Record.TheVariants.{Pair, LeftAlone, RightAlone}
@@ -118,7 +118,7 @@ giving l (left base sizes marks noted given) = left base sizes marks noted (l ++
 abbrev pub leave : Bool → ℕ → ℕ → List ℕ → List Mark → List ℕ → Left
 leave keeps m base [] marks noted = left base [] marks noted []
 leave keeps m base (n ∷ sizes) marks noted = cond (nat_le n m)
-    (giving (alones (filter (λ j. ltb j (base + n)) noted) ++ when keeps (failures base (take n marks)))
+    (giving (alones (filter (λ j. nat_lt j (base + n)) noted) ++ when keeps (failures base (take n marks)))
     (leave keeps (m - n) (base + n) sizes (drop n marks) (filter (λ j. not (nat_lt j (base + n))) noted)))
     (left base (n ∷ sizes) marks noted [])
 

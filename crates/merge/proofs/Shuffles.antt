@@ -1,4 +1,4 @@
--- From derivations of a permutation to std's `Shuffled` and `Has`.
+-- From derivations of a permutation to std's `IsPermutation` and `ContainsAt`, here `Has`.
 use Rattle.std.proofs.Common.{suc, List, [], ◌∷◌, ◌++◌, sym, subst, arith}
 use mathlib.Core.List.Permᴰ
 use mathlib.Core.List.{Memᴰ, Permᴰ}
