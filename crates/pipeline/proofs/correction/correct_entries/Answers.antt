@@ -9,19 +9,19 @@ use Rattle.pipeline.proofs.correction.correct_entries.Goals as goal
 use Rattle.pipeline.proofs.correction.correct_entries.Goals.{in-Kept, in-Alone, in-Dropped, then-i-entries, else-i-entries}
 
 -- the test is whether the entry is last of its row
-last_is : (c : goal.After-yes-seen-after-seen) → c.if-i-entries.last ≡ last_of_row (get_or c.loop-i.entries c.loop-i.i blank) (drop (c.loop-i.i + 1) c.args.entries.now)
-last_is c =
+last-is : (c : goal.After-yes_seen_after-seen) → c.if-i-entries.last ≡ last_of_row (get_or c.loop-i.entries c.loop-i.i blank) (drop (c.loop-i.i + 1) c.args.entries.now)
+last-is c =
     let xs = c.args.entries.now in
     let i = c.loop-i.i in
     let e = get_or c.loop-i.entries i blank in
     elim c.if-i-entries.branch [
       | then-i-entries w ↦
           let k : i + 1 < length xs = omega (arith, w.if-i-entries.true) in
-          w.last_is ∙ ap not w.same-row.ensures ∙ ap (λ f. not (same_row e.row f.row)) (unread c.loop-i.invariant (i + 1) blank (omega arith))
+          w.last-is ∙ ap not w.same_row.ensures ∙ ap (λ f. not (same_row e.row f.row)) (unread c.loop-i.invariant (i + 1) blank (omega arith))
           ∙ sym (at_drop_more (last_of_row e) xs (i + 1) blank k)
       | else-i-entries w ↦
           let k : length xs ≤ i + 1 = omega (arith, w.if-i-entries.false) in
-          w.last_is ∙ sym (at_drop_all (last_of_row e) xs (i + 1) k)
+          w.last-is ∙ sym (at_drop_all (last_of_row e) xs (i + 1) k)
     ]
 
 pub loop-i-preserved : goal.loop-i-preserved
@@ -29,13 +29,13 @@ loop-i-preserved c =
     let xs = c.args.entries.now in
     let i = c.loop-i.i in
     let e = get_or c.loop-i.entries i blank in
-    let seen = c.yes-seen-after-seen.result in
+    let seen = c.yes_seen_after-seen.result in
     let here : i < length xs = omega arith in
     let turn = corrected_one c.args.kind c.loop-i.seen c.if-i-entries.last seen e (drop (i + 1) xs) in
-    elim c.match-fate-of.branch [
-      | in-Kept w ↦ rw (w.entries-is, w.left-is) (compacting_write c.loop-i.invariant seen blank e here (turn Kept (last_is c) w.in-Kept.ensures c.yes-seen-after-seen.ensures))
-      | in-Alone w ↦ rw (w.entries-is, w.left-is, w.alone-entry.ensures) (compacting_write c.loop-i.invariant seen blank _ here (turn Alone (last_is c) w.in-Alone.ensures c.yes-seen-after-seen.ensures))
-      | in-Dropped w ↦ rw (w.entries-is, w.left-is) (compacting_drop c.loop-i.invariant seen blank here (turn Dropped (last_is c) w.in-Dropped.ensures c.yes-seen-after-seen.ensures))
+    elim c.match-fate_of.branch [
+      | in-Kept w ↦ rw (w.entries-is, w.left-is) (compacting_write c.loop-i.invariant seen blank e here (turn Kept (last-is c) w.in-Kept.ensures c.yes_seen_after-seen.ensures))
+      | in-Alone w ↦ rw (w.entries-is, w.left-is, w.alone_entry.ensures) (compacting_write c.loop-i.invariant seen blank _ here (turn Alone (last-is c) w.in-Alone.ensures c.yes_seen_after-seen.ensures))
+      | in-Dropped w ↦ rw (w.entries-is, w.left-is) (compacting_drop c.loop-i.invariant seen blank here (turn Dropped (last-is c) w.in-Dropped.ensures c.yes_seen_after-seen.ensures))
     ]
 
 pub returns : goal.returns

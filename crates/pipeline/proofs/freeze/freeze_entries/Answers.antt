@@ -5,7 +5,7 @@ use Rattle.pipeline.specs.Freezing.{asking, verdict_of, judged}
 use Rattle.pipeline.proofs.Blank.{blank}
 use Rattle.pipeline.proofs.Freezes.{with_verdict, judged_more, marking_more, judged_lone, judged_end, marking_end}
 use Rattle.pipeline.proofs.freeze.freeze_entries.Goals as goal
-use Rattle.pipeline.proofs.freeze.freeze_entries.Goals.{in-Some, in-default}
+use Rattle.pipeline.proofs.freeze.freeze_entries.Goals.{in-Some, in_default}
 
 pub loop-i-preserved : goal.loop-i-preserved
 loop-i-preserved g c =
@@ -16,18 +16,18 @@ loop-i-preserved g c =
     let here : i < length xs = omega arith in
     elim c.match-entry.branch [
       | in-Some w ↦
-          let verdict : Some w.says-yes-yes.result ≡ (judged asks e).verdict = ap (λ t. Some t) w.says-yes-yes.ensures ∙ sym (ap (λ r. verdict_of r e.verdict (asks e.left e.right)) w.in-Some.is) in
+          let verdict : Some w.says_yes-yes.result ≡ (judged asks e).verdict = ap (λ t. Some t) w.says_yes-yes.ensures ∙ sym (ap (λ r. verdict_of r e.verdict (asks e.left e.right)) w.in-Some.is) in
           let is : c.match-entry.entries ≡ set xs i (judged asks e) = w.entries-is ∙ ap (λ v. set xs i (with_verdict v e)) verdict in
           let marks : states_of c.match-entry.states ≡ mark_verdict e.row (judged asks e).verdict (buffered_place c.args.kind e.«record» - c.args.base) (states_of c.loop-i.states) =
           ap states_of w.states-is ∙ w.mark.ensures
-          ∙ ap (λ n. mark_at n w.says-yes-yes.result (states_of c.loop-i.states)) (w.saturating-sub-row.ensures ∙ ap (λ p. p - c.args.base) w.partner-place.ensures)
+          ∙ ap (λ n. mark_at n w.says_yes-yes.result (states_of c.loop-i.states)) (w.saturating_sub-row.ensures ∙ ap (λ p. p - c.args.base) w.partner_place.ensures)
           ∙ ap (λ v. mark_verdict (Some w.in-Some.field-0) v (buffered_place c.args.kind e.«record» - c.args.base) (states_of c.loop-i.states)) verdict
           ∙ ap (λ r. mark_verdict r (judged asks e).verdict (buffered_place c.args.kind e.«record» - c.args.base) (states_of c.loop-i.states)) (sym w.in-Some.is) in (
             judged_more asks xs i blank here c.match-entry.entries is _ c.loop-i.invariant.0,
             marking_more asks xs i blank here c.match-entry.entries is c.args.kind c.args.base _ _ _ marks c.loop-i.invariant.1,
           )
-      | in-default w ↦
-          let none : e.row ≡ None = w.in-default.is in
+      | in_default w ↦
+          let none : e.row ≡ None = w.in_default.is in
           let is : c.match-entry.entries ≡ set xs i (judged asks e) = w.entries-is ∙ judged_lone asks xs i blank none in
           let marks : states_of c.match-entry.states ≡ mark_verdict e.row (judged asks e).verdict (buffered_place c.args.kind e.«record» - c.args.base) (states_of c.loop-i.states) =
           ap states_of w.states-is ∙ ap (λ r. mark_verdict r (judged asks e).verdict (buffered_place c.args.kind e.«record» - c.args.base) (states_of c.loop-i.states)) (sym none) in (

@@ -8,6 +8,6 @@ returns c =
     let f = c.args.frozen in
     let u = c.args.unfrozen in
     let n = c.args.noted in
-    brought_in b f u n c.requires c.copy-within.new.self _ _ c.reverse.new.self c.reverse-2.new.self
+    brought_in b f u n c.requires c.copy_within.new.self _ _ c.reverse.new.self c.reverse-2.new.self
     (length b - (length b - n)) (f + u + n - f) (f + u + n - (f + n)) (omega arith) (omega arith) (omega arith)
-    c.copy-within.ensures.after c.reverse.ensures.after refl c.reverse-2.ensures.after refl
+    c.copy_within.ensures.after c.reverse.ensures.after refl c.reverse-2.ensures.after refl

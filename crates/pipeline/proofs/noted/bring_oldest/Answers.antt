@@ -8,7 +8,7 @@ returns c =
     let f = c.args.frozen in
     let n = c.args.noted in
     let m = c.args.count in
-    let both = brought_oldest b f n m (omega arith) (omega arith) c.copy-within.new.self _ _ c.copy-within-2.new.self c.reverse.new.self c.reverse-2.new.self
+    let both = brought_oldest b f n m (omega arith) (omega arith) c.copy_within.new.self _ _ c.copy_within-2.new.self c.reverse.new.self c.reverse-2.new.self
     (length b - (length b - n)) (f + n - f) (f + n - (f + m)) (f + n - (f + m)) (omega arith) (omega arith) (omega arith) (omega arith)
-    c.copy-within.ensures.after c.reverse.ensures.after refl c.reverse-2.ensures.after refl c.copy-within-2.ensures.after in
+    c.copy_within.ensures.after c.reverse.ensures.after refl c.reverse-2.ensures.after refl c.copy_within-2.ensures.after in
     record { front = both.0; back = both.1 }

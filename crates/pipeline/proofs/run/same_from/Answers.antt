@@ -9,7 +9,7 @@ returns-in-Less g c =
     let key = c.args.key.now in
     let rows = c.args.rows.now in
     let x = c.index-rows-i.result in
-    let apart : is_same (within key x.key) ≡ false = ap is_same (sym c.compare-within.ensures) ∙ ⊎_elim (λ e. ap is_same e) (λ e. ap is_same e) c.in-Less.is in
+    let apart : is_same (within key x.key) ≡ false = ap is_same (sym c.compare_within.ensures) ∙ ⊎_elim (λ e. ap is_same e) (λ e. ap is_same e) c.in-Less.is in
     let all = read within key rows c.loop-i.i (run_stops within key rows c.loop-i.i _ c.loop-i.invariant x c.loop-i-test.true c.index-rows-i.is apart) in
     record { value = all.value; same = all.same; longest = all.longest; onward = all.onward }
 

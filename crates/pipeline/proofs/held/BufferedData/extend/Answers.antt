@@ -7,11 +7,11 @@ use Rattle.pipeline.proofs.Ranges.{with_batches, can_extend_yes, can_extend_no, 
 use Rattle.pipeline.proofs.held.BufferedData.extend.Goals as goal
 
 -- a last batch that refuses stays as it is
-pub invariant-of-self : goal.invariant-of-self
-invariant-of-self c =
+pub invariant_of-self : goal.invariant_of-self
+invariant_of-self c =
     let s = c.args.self.now in
     let same : set s.batches (s.count - 1) c.extend.new.self ≡ s.batches = set_same s.batches (s.count - 1) _ c.extend.new.self c.if-not-extend.ensures.left in
-    (ap length same ∙ s.room, (s.few, (s.run, (s.within, (s.places, (ap (λ l. rows_of (take s.count l)) same ∙ s.together, tt))))))
+    record { room = ap length same ∙ s.room; few = s.few; run = s.run; within = s.within; places = s.places; together = ap (λ l. rows_of (take s.count l)) same ∙ s.together }
 
 pub returns-then-not-extend : goal.returns-then-not-extend
 returns-then-not-extend c =
@@ -22,11 +22,11 @@ returns-then-not-extend c =
       left = ap (λ l. with_batches (holding s) (take s.count l)) same;
     }
 
-pub invariant-of-self-2 : goal.invariant-of-self-2
-invariant-of-self-2 c =
+pub invariant_of-self-2 : goal.invariant_of-self-2
+invariant_of-self-2 c =
     let s = c.args.self.now in
     let made = last_changed (longer c.args.more) s.batches s.count _ c.extend.new.self (omega arith) (omega arith) c.if-not-extend.ensures.left in
-    (length-set s.batches _ _ ∙ s.room, (s.few, (omega arith, (omega arith, (s.places, (ap rows_of made ∙ rows_of_last (longer c.args.more) (λ b. refl) (take s.count s.batches) ∙ s.together, tt))))))
+    record { room = length-set s.batches _ _ ∙ s.room; few = s.few; run = omega arith; within = omega arith; places = s.places; together = ap rows_of made ∙ rows_of_last (longer c.args.more) (λ b. refl) (take s.count s.batches) ∙ s.together }
 
 pub returns : goal.returns
 returns c =

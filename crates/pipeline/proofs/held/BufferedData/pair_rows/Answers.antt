@@ -6,13 +6,13 @@ use Rattle.pipeline.proofs.Scanning.{Goes, pairs, stays, and_on, took, run_at_en
 use Rattle.pipeline.proofs.held.BufferedData.pair_rows.Goals as goal
 use Rattle.pipeline.proofs.held.BufferedData.pair_rows.Goals.{then-loop-at-test+else-first-at, else-loop-at-test}
 
-pub overflow-add-first : goal.overflow-add-first
-overflow-add-first g c =
+pub overflow_add-first : goal.overflow_add-first
+overflow_add-first g c =
     let few : c.scan.first ≤ 16777215 = first_within c.args.self.now c.args.rows.now c.scan.batch c.scan.first c.scan.invariant.0 in
     omega arith
 
-pub overflow-add-first-in-scan : goal.overflow-add-first-in-scan
-overflow-add-first-in-scan g c =
+pub overflow_add-first-in-scan : goal.overflow_add-first-in-scan
+overflow_add-first-in-scan g c =
     let few : c.scan.first ≤ 16777215 = first_within c.args.self.now c.args.rows.now c.scan.batch c.scan.first c.scan.invariant.0 in
     omega arith
 

@@ -6,25 +6,17 @@ use Rattle.pipeline.specs.Held.{holding, pushed}
 use Rattle.pipeline.proofs.Ranges.{with_batches, can_push_yes, rows_of_push}
 use Rattle.pipeline.proofs.held.BufferedData.push.Goals as goal
 
-pub invariant-of-self : goal.invariant-of-self
-invariant-of-self c =
+pub invariant_of-self : goal.invariant_of-self
+invariant_of-self c =
     let s = c.args.self.now in
-    let more = take_more_set s.batches s.count c.new.result (omega arith) in (
-      length-set s.batches _ _ ∙ s.room,
-      (
-        omega arith,
-        (
-          s.run,
-          (
-            omega arith,
-            (
-              omega arith,
-              (ap rows_of more ∙ rows_of_push (take s.count s.batches) c.new.result ∙ ap (λ n. n + c.new.result.rows) s.together ∙ ap (λ (b : BufferedBatch). s.held + b.rows) c.new.ensures, tt),
-            ),
-          ),
-        ),
-      ),
-    )
+    let more = take_more_set s.batches s.count c.new.result (omega arith) in record {
+      room = length-set s.batches _ _ ∙ s.room;
+      few = omega arith;
+      run = s.run;
+      within = omega arith;
+      places = omega arith;
+      together = ap rows_of more ∙ rows_of_push (take s.count s.batches) c.new.result ∙ ap (λ n. n + c.new.result.rows) s.together ∙ ap (λ (b : BufferedBatch). s.held + b.rows) c.new.ensures;
+    }
 
 pub returns : goal.returns
 returns c =

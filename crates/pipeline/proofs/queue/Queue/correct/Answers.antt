@@ -10,6 +10,6 @@ returns c =
     let block = c.args.block.now in
     let k = q.frozen - 0 in
     let all : k ≡ q.frozen = omega arith in
-    due_step (correct c.args.kind) q c.make-due.new.self block c.correct-entries-count.new.entries (corrected c.args.kind false (take k block)) c.correct-entries-count.result k
-    (sym c.can_hand.ensures ∙ c.if-not-can-hand.false) all c.correct-entries-count.auto.entries c.correct-entries-count.ensures.front c.correct-entries-count.ensures.count
-    (same_queued refl refl refl (ap (λ n. records (corrected c.args.kind false (take n block))) (sym all))) c.make-due.ensures
+    due_step (correct c.args.kind) q c.make_due.new.self block c.correct_entries-count.new.entries (corrected c.args.kind false (take k block)) c.correct_entries-count.result k
+    (sym c.can_hand.ensures ∙ c.if-not-can_hand.false) all c.correct_entries-count.auto.entries c.correct_entries-count.ensures.front c.correct_entries-count.ensures.count
+    (same_queued refl refl refl (ap (λ n. records (corrected c.args.kind false (take n block))) (sym all))) c.make_due.ensures

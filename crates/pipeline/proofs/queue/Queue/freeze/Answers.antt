@@ -12,6 +12,6 @@ returns g c =
     let k = q.frozen + q.unfrozen - q.frozen in
     let all : k ≡ q.unfrozen = omega arith in
     record {
-      block = freeze_step asks q block _ c.freeze-entries.new.entries k (sym c.has-room.ensures ∙ c.if-not-has-room.false) all c.freeze-entries.ensures.entries refl;
-      states = c.freeze-entries.ensures.states ∙ ap (λ n. marking c.args.kind c.args.base (judged_all asks (take n (drop q.frozen block))) (states_of c.args.states.now)) all;
+      block = freeze_step asks q block _ c.freeze_entries.new.entries k (sym c.has_room.ensures ∙ c.if-not-has_room.false) all c.freeze_entries.ensures.entries refl;
+      states = c.freeze_entries.ensures.states ∙ ap (λ n. marking c.args.kind c.args.base (judged_all asks (take n (drop q.frozen block))) (states_of c.args.states.now)) all;
     }

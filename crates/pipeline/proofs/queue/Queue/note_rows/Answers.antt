@@ -11,13 +11,13 @@ loop-i-preserved c =
     let block = c.args.block.now in
     let i = c.loop-i.i in
     let now = c.loop-i.self in
-    let can = and_parts (leb (c.args.first + c.args.n) places) (has_room c.args.n q block) (sym c.can_note.ensures ∙ c.if-not-can-note.false) in
+    let can = and_parts (leb (c.args.first + c.args.n) places) (has_room c.args.n q block) (sym c.can_note.ensures ∙ c.if-not-can_note.false) in
     let parts = room_parts c.args.n q block can.1 in
     let inv = c.loop-i.invariant in
     let numbers = c.note.ensures.numbers in
     let fits : now.frozen + now.unfrozen + now.noted + 1 ≤ length c.loop-i.block = omega (arith, parts.1, inv.2, inv.3, inv.4, c.loop-i-test.true, c.loop-i.auto.block) in
     let written = set c.loop-i.block (length c.loop-i.block - 1 - now.noted) c.lone.result in
-    let is : c.lone.result ≡ lone _ = c.lone.ensures ∙ ap lone c.buffered-record.ensures in (
+    let is : c.lone.result ≡ lone _ = c.lone.ensures ∙ ap lone c.buffered_record.ensures in (
       ap (λ x. x.next) numbers ∙ inv.0,
       ap (λ x. x.due) numbers ∙ inv.1,
       ap (λ x. x.frozen) numbers ∙ inv.2,

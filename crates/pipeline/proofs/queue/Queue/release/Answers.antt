@@ -10,6 +10,6 @@ returns c =
     let block = c.args.block.now in
     let k = q.frozen - 0 in
     let all : k ≡ q.frozen = omega arith in
-    due_step release q c.make-due.new.self block c.keep-passing-count.new.entries (passing (take k block)) c.keep-passing-count.result k
-    (sym c.can_hand.ensures ∙ c.if-not-can-hand.false) all c.keep-passing-count.auto.entries c.keep-passing-count.ensures.front c.keep-passing-count.ensures.count
-    (same_queued refl refl refl (ap (λ n. records (passing (take n block))) (sym all))) c.make-due.ensures
+    due_step release q c.make_due.new.self block c.keep_passing-count.new.entries (passing (take k block)) c.keep_passing-count.result k
+    (sym c.can_hand.ensures ∙ c.if-not-can_hand.false) all c.keep_passing-count.auto.entries c.keep_passing-count.ensures.front c.keep_passing-count.ensures.count
+    (same_queued refl refl refl (ap (λ n. records (passing (take n block))) (sym all))) c.make_due.ensures

@@ -5,5 +5,5 @@ use Rattle.pipeline.proofs.states.States.drop_front.Goals as goal
 pub returns : goal.returns
 returns c =
     let s = c.args.self.now in
-    moved_to_front s.cells c.copy-within.new.self c.min-gone.result s.len (omega arith) c.copy-within.ensures.after
+    moved_to_front s.cells c.copy_within.new.self c.min-gone.result s.len (omega arith) c.copy_within.ensures.after
     ∙ ap (λ k. drop k (take s.len s.cells)) c.min-gone.ensures ∙ drop_most s.cells c.args.rows s.len
