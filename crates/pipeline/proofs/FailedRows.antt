@@ -1,6 +1,6 @@
 -- The rows of a batch whose pairs all failed, one by one.
-use Rattle.std.proofs.Common.{◌≡◌, ℕ, zero, suc, ◌+◌, ◌-◌, ◌<◌, ◌≤◌, Bool, true, false, cond, List, [], ◌∷◌, ◌++◌, length, take, drop, set, Some, None, Option, sym, refl, ap, ◌∙◌, append_assoc, append-nil, suc-add, zero-add, arith}
-use Rattle.std.proofs.lemmas.List.{take_more_set, take_at, take_all, drop_all, length-take, length-take-le}
+use Rattle.std.proofs.Common.{◌≡◌, ℕ, zero, suc, ◌+◌, ◌<◌, ◌≤◌, true, false, cond, List, [], ◌∷◌, ◌++◌, length, take, drop, set, Some, sym, refl, ap, ◌∙◌, append_assoc, append-nil, suc-add, zero-add, arith}
+use Rattle.std.proofs.lemmas.List.{take_more_set, take_at, take_all, drop_all, length-take-le}
 use Rattle.rows.specs.declared.kind.Kind.{Kind}
 use Rattle.pipeline.specs.declared.entry.Entry.{Entry}
 use Rattle.pipeline.specs.declared.states.FilterState.{FilterState}

@@ -1,8 +1,8 @@
 -- Parts of a list that are moved and turned round in place.
-use Rattle.std.proofs.Common.{◌≡◌, ℕ, ◌+◌, ◌-◌, ◌<◌, ◌≤◌, List, [], ◌∷◌, ◌++◌, reverse, length, take, drop, sym, refl, ap, ◌∙◌, append_assoc, append-nil, arith, take-add}
+use Rattle.std.proofs.Common.{◌≡◌, ℕ, ◌+◌, ◌-◌, ◌≤◌, List, ◌++◌, reverse, length, take, drop, sym, ap, ◌∙◌, append_assoc, append-nil, arith, take-add}
 use lib.Seq.{paste}
 use borrow.Rule.Slice.PartMut.{put_mid}
-use Rattle.std.proofs.lemmas.List.{length-take-le, length-drop, length-append, length-reverse, take_all, take_at, drop_at, drop_all, take-append-le, drop-append-le, take-append-drop, reverse-append, reverse-reverse, take-take}
+use Rattle.std.proofs.lemmas.List.{length-take-le, length-drop, length-append, length-reverse, take_all, take_at, drop_at, drop_all, take-append-le, take-append-drop, reverse-append, reverse-reverse, take-take}
 
 module _ {X : Type 0} where
   -- the last n of b are copied to the place `at`

@@ -1,6 +1,6 @@
 -- The scan of a run over the batches held and their rows, from one position to another.
-use Rattle.std.proofs.Common.{◌≡◌, ℕ, zero, suc, ◌+◌, ◌-◌, ◌<◌, ◌≤◌, min, ◌⊎◌, List, [], ◌∷◌, ◌++◌, length, get_or, take, drop, set, sym, refl, ap, ◌∙◌, subst, inl, inr, ⊎_elim, append_assoc, append-nil, add_assoc, arith, length-append, length-set, take-append-drop, length-take, length-take-le, drop-drop, drop-set-lt}
-use Rattle.std.proofs.lemmas.List.{append_cancel_right, take_more, take_more_set, drop_more, drop_all, at_drop_more, at_drop_all, get_or-take, get_or-drop, length-drop}
+use Rattle.std.proofs.Common.{◌≡◌, ℕ, zero, suc, ◌+◌, ◌-◌, ◌<◌, ◌≤◌, min, ◌⊎◌, List, [], ◌∷◌, ◌++◌, length, get_or, take, drop, set, sym, refl, ap, ◌∙◌, subst, inl, inr, ⊎_elim, append_assoc, add_assoc, arith, length-set, take-append-drop, length-take, length-take-le, drop-drop, drop-set-lt}
+use Rattle.std.proofs.lemmas.List.{append_cancel_right, take_more, take_more_set, drop_more, drop_all, at_drop_more, at_drop_all, get_or-take, length-drop}
 use Rattle.rows.specs.declared.kind.Kind.{Kind}
 use Rattle.rows.specs.declared.reading.Reading.{Reading}
 use Rattle.rows.specs.declared.row.Row.{Row}

@@ -1,5 +1,5 @@
 -- Freezing asks the filter of each pair.
-use Rattle.std.specs.Prelude.{Bool, true, false, cond, List, [], ◌∷◌, ◌++◌, Some, None, Option}
+use Rattle.std.specs.Prelude.{Bool, true, cond, List, [], ◌∷◌, ◌++◌, Some, None, Option}
 use Rattle.rows.specs.declared.reading.Reading.{Reading}
 use Rattle.filters.specs.declared.filter.Verdict.{Verdict}
 use Rattle.filters.specs.Verdicts.{is_yes}

@@ -1,7 +1,7 @@
-use Rattle.std.proofs.Common.{◌≡◌, ◌+◌, ◌<◌, ◌≤◌, Bool, not, length, get_or, drop, sym, refl, ap, ◌∙◌, arith}
+use Rattle.std.proofs.Common.{◌≡◌, ◌+◌, ◌<◌, ◌≤◌, not, length, get_or, drop, sym, refl, ap, ◌∙◌, arith}
 use Rattle.std.proofs.lemmas.List.{at_drop_more, at_drop_all}
 use Rattle.pipeline.specs.declared.correction.Fate.TheVariants.{Kept, Alone, Dropped}
-use Rattle.pipeline.specs.Correction.{last_of_row, same_row, corrected, fated}
+use Rattle.pipeline.specs.Correction.{last_of_row, same_row}
 use Rattle.pipeline.proofs.Blank.{blank}
 use Rattle.pipeline.proofs.Compacting.{unread, compacting_drop, compacting_write, compacting_front, compacting_count}
 use Rattle.pipeline.proofs.RowByRow.{corrected_one, row_by_row}

@@ -1,4 +1,4 @@
-use Rattle.std.proofs.Common.{◌≡◌, ◌+◌, ◌-◌, ◌<◌, ◌≤◌, length, get_or, set, Some, None, sym, refl, ap, ◌∙◌, arith}
+use Rattle.std.proofs.Common.{◌≡◌, ◌-◌, ◌<◌, ◌≤◌, length, get_or, set, Some, None, sym, ap, ◌∙◌, arith}
 use Rattle.pipeline.specs.States.{states_of, mark_verdict, mark_at}
 use Rattle.pipeline.specs.Orient.{buffered_place}
 use Rattle.pipeline.specs.Freezing.{asking, verdict_of, judged}

@@ -1,4 +1,4 @@
-use Rattle.std.proofs.Common.{◌≡◌, ◌+◌, ◌<◌, ◌≤◌, cond, [], ◌∷◌, ◌++◌, length, get_or, drop, sym, refl, ap, ◌∙◌, arith}
+use Rattle.std.proofs.Common.{◌+◌, ◌<◌, ◌≤◌, cond, [], ◌∷◌, ◌++◌, length, get_or, drop, sym, refl, ap, ◌∙◌, arith}
 use Rattle.pipeline.specs.Freezing.{passing}
 use Rattle.pipeline.proofs.Blank.{blank}
 use Rattle.pipeline.proofs.Compacting.{compacting_drop, compacting_write, compacting_front, compacting_count}

@@ -1,4 +1,4 @@
-use Rattle.std.proofs.Common.{◌≡◌, false, length, Less, Equal, Greater, sym, ap, ◌∙◌, ⊎_elim, arith}
+use Rattle.std.proofs.Common.{◌≡◌, false, length, sym, ap, ◌∙◌, ⊎_elim, arith}
 use Rattle.rows.specs.Order.{is_same}
 use Rattle.pipeline.proofs.Sameness.{run_stops, run_more, run_all, read}
 use Rattle.pipeline.proofs.run.same_from.Goals as goal

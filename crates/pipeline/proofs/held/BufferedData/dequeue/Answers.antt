@@ -1,4 +1,4 @@
-use Rattle.std.proofs.Common.{◌≡◌, ◌-◌, ◌≤◌, length, take, drop, ap, ◌∙◌, arith, length-take-le}
+use Rattle.std.proofs.Common.{◌≡◌, ◌-◌, length, take, drop, ap, ◌∙◌, arith, length-take-le}
 use Rattle.pipeline.specs.Batches.{rows_of}
 use Rattle.pipeline.specs.Held.{holding}
 use Rattle.pipeline.proofs.Fronts.{moved_to_front}

@@ -1,8 +1,7 @@
-use Rattle.std.proofs.Common.{◌≡◌, ℕ, ◌+◌, ◌<◌, ◌≤◌, min, ◌⊎◌, ◌∷◌, length, get_or, take, sym, ap, ◌∙◌, inl, inr, arith, length-take-le}
-use Rattle.rows.specs.declared.row.Row.{Row}
+use Rattle.std.proofs.Common.{◌≡◌, ◌+◌, ◌<◌, ◌≤◌, min, ◌⊎◌, ◌∷◌, length, get_or, take, sym, ap, ◌∙◌, inl, inr, arith, length-take-le}
 use Rattle.pipeline.specs.declared.entry.Entry.{Entry}
 use Rattle.pipeline.specs.Held.{holding, run_at}
-use Rattle.pipeline.proofs.Scanning.{Goes, pairs, stays, and_on, took, run_at_end, first_within, next_first, scan_row, scan_next, scan_count, scan_written, scan_left}
+use Rattle.pipeline.proofs.Scanning.{pairs, stays, and_on, took, run_at_end, first_within, next_first, scan_row, scan_next, scan_count, scan_written, scan_left}
 use Rattle.pipeline.proofs.held.BufferedData.pair_rows.Goals as goal
 use Rattle.pipeline.proofs.held.BufferedData.pair_rows.Goals.{then-loop-at-test+else-first-at, else-loop-at-test}
 

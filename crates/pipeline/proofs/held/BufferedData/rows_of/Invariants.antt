@@ -1,4 +1,4 @@
-use Rattle.std.proofs.Common.{◌≡◌, ◌+◌, ◌*◌, ◌≤◌, take}
+use Rattle.std.proofs.Common.{◌≡◌, ◌*◌, ◌≤◌, take}
 use Rattle.pipeline.specs.Batches.{rows_of}
 use Rattle.pipeline.proofs.held.BufferedData.rows_of.Given as goal
 

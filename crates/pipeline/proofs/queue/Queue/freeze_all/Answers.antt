@@ -1,4 +1,4 @@
-use Rattle.std.proofs.Common.{◌≡◌, ◌+◌, ◌≤◌, cond, length, sym, ap, ◌∙◌, arith}
+use Rattle.std.proofs.Common.{◌+◌, ◌≤◌, cond, length, sym, ap, ◌∙◌, arith}
 use Rattle.pipeline.specs.Freezing.{asking, judged_all}
 use Rattle.pipeline.specs.States.{states_of, marking}
 use Rattle.pipeline.proofs.Queues.{room_parts, freeze_all_step, brought_unfrozen}

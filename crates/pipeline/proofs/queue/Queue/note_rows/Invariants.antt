@@ -1,5 +1,4 @@
 use Rattle.std.proofs.Common.{◌≡◌, ◌+◌}
-use Rattle.pipeline.specs.declared.queue.Queue.{Queue}
 use Rattle.pipeline.specs.Block.{queued, noting}
 use Rattle.pipeline.proofs.queue.Queue.note_rows.Given as goal
 

@@ -1,4 +1,4 @@
-use Rattle.std.proofs.Common.{◌≡◌, ◌<◌, length, take, set, sym, ap, ◌∙◌, arith}
+use Rattle.std.proofs.Common.{take, set, ap, ◌∙◌, arith}
 use Rattle.pipeline.specs.declared.states.FilterState.TheVariants.{Unvisited}
 use Rattle.pipeline.proofs.Cells.{mark_at_below, mark_at_past}
 use Rattle.pipeline.proofs.states.States.mark.Goals as goal
