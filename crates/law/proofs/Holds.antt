@@ -27,7 +27,7 @@ use Rattle.merge.proofs.Prefixes.{turn_alike, with_more}
 use Rattle.merge.proofs.Steps.{Shuns}
 use Rattle.law.specs.Pipe.{Entry, fixed, judged, Mark, unseen, Pipe, pipe, settled, failures, alones, marking, places, note, part, marked, mark_at, freeze, flush, push}
 use Rattle.law.specs.Machine.{on_streamed, on_buffered, disordered, oversized, overlong, crowded, from_source, Answer, waiting, finished, failed, Outcome, going, gives, answered, most_rows, most_batches, stops, after_fetch, fetch_checked, fetch_taken, fetch, load_checked, load, seed, extend, go_on, close, compare, compared, pass, step, micro, lone_row, opened, Turned, answers, steps, hands, pass_run as run_passed, turn as turn_step, Setting, Closing, ended, faulted, Fault, Phase, fetching, seeding, extending, closing, turning, passing, done, pairing, stopped, Streamed, streamed, Buffered, buffered, Counts, counts, State, state, total_size, base_of, last_of, disorder, held_more, is_full, most_handed}
-use Rattle.law.specs.Law.{Ample, in_block, mores, Runs, none, turned, reported, Lawful, Law, joined, Goes_on, turns_of, one_more, rows_in, is_over, over, streamed_failed, buffered_failed, Led, Fair, passes}
+use Rattle.law.specs.Law.{Ample, in_block, mores, Runs, none, turned, reported, Lawful, Law, joined, GoesOn, turns_of, one_more, rows_in, is_over, over, streamed_failed, buffered_failed, Led, Fair, passes}
 use Rattle.law.proofs.Totals.{total, total_append, Same, same_from_perm, perm_from_same}
 use Rattle.law.proofs.Pipes.{Own, ModeOf, parts, From, apart_cut, worth_apart, Moded, mode_empty, Ranged, worth, worth_of, marks_of, OnlyDue, Frozen, frozen, flushed, Grown, grown, size_of, noted_of, unfrozen_of, due_of, unseens, unseens_total, unseen_few, length_total, low, Pushed, pushed, Parted, parted, moded_passed, worth_none, noted_worth, noted_mode, failures_total, marking_longer, more_range}
 use Rattle.law.proofs.Rows.{Level, Stop, run_is, group_of, standing, Unmet, unmet_fresh, checked, length_standing, run_worth, standing_append, standing_same, unmet_push, mark_of, mark_push, mark_middle, group_push, settled_group, pairs_append, plain_group, sorted_on, noted_unseen}
@@ -1598,7 +1598,7 @@ module _ {X F V : Type 0} (c : Setting X V) (laws : Laws c.within c.across) (sl 
       record {
         once = distinct_front out own_rows.0 (distinct_perm (Permᴰ.symm (perm_from_same _ _ own_rows.1)) (table_distinct (passes c) c.keeps_streamed c.keeps_buffered (g.read_s ++ []) (g.read_b ++ [])));
         belongs = λ s' b' fs fb gs gb.
-            let q = covered out (mores told) (t + 1) st bf p n v ph i s' b' fs fb (sorted_on c.within g.read_s s' k.streamed_side.sorted (subst (λ x. Goes_on c.within (last_of None x) s') rs gs)) (sorted_on c.within g.read_b b' k.buffered_side.sorted (subst (λ x. Goes_on c.within (last_of None x) b') rb gb)) in
+            let q = covered out (mores told) (t + 1) st bf p n v ph i s' b' fs fb (sorted_on c.within g.read_s s' k.streamed_side.sorted (subst (λ x. GoesOn c.within (last_of None x) s') rs gs)) (sorted_on c.within g.read_b b' k.buffered_side.sorted (subst (λ x. GoesOn c.within (last_of None x) b') rb gb)) in
             subst (λ x. All (Has (joined c (x ++ s') (take (first + length (run ++ beyond)) (rows_in bl) ++ b'))) out) (sym rs) (subst (λ x. All (Has (joined c (g.read_s ++ s') (x ++ b'))) out) (sym rb) (all_have out q.0 _ (perm_from_same _ _ q.1)));
         whole = λ z. shuffled_from_perm (perm_from_same _ _ (ended_facts out (mores told) (t + 1) st bf p t nr nu h v ph i (fin z)).all_out);
         turns = k.tally.turns_are;

@@ -114,9 +114,9 @@ abbrev pub Ample : {X V : Type 0} → Setting X V → Type 0
 Ample c = (1 ≤ c.size) × (1 ≤ c.buffered_table)
 
 -- rows that may follow in key order
-abbrev pub Goes_on : {X : Type 0} → (X → X → Ordering) → Option X → List X → Type 0
-Goes_on within None l = Sorted within l
-Goes_on within (Some w) l = Leads within w l × Sorted within l
+abbrev pub GoesOn : {X : Type 0} → (X → X → Ordering) → Option X → List X → Type 0
+GoesOn within None l = Sorted within l
+GoesOn within (Some w) l = Leads within w l × Sorted within l
 
 -- what a kind of join with or without a filter comes to: deferred if filtered and outer; without a filter every pair passes
 abbrev pub Fair : {X V : Type 0} → Setting X V → Type 0
@@ -139,7 +139,7 @@ module _ {X F V : Type 0} (c : Setting X V) (sl : List (List X)) (sc : Closing F
     pub once : Distinct out
     -- whatever may follow the rows read
     pub belongs : (s' b' : List X) → Follows (streamed_over s) s' → Follows (buffered_over s) b'
-        → Goes_on c.within (last_of None (take (streamed_read s) (rows_in sl))) s' → Goes_on c.within (last_of None (take (buffered_read s) (rows_in bl))) b'
+        → GoesOn c.within (last_of None (take (streamed_read s) (rows_in sl))) s' → GoesOn c.within (last_of None (take (buffered_read s) (rows_in bl))) b'
         → All (Has (joined c (take (streamed_read s) (rows_in sl) ++ s') (take (buffered_read s) (rows_in bl) ++ b'))) out
     pub whole : Has told finished → IsPermutation out (joined c (rows_in sl) (rows_in bl))
     pub turns : turns_of s ≡ rows_of s + runs_of s

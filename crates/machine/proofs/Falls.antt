@@ -209,12 +209,12 @@ measure_steps c block s s' h e d = outweighs block (weight c s) (weight c s') (l
 
 module _ {K V : Type 0} (c : Setting K) (fits : V → Record → Bool) (after : V → Record → V) where
   -- a micro step goes on where nothing is due and the small step goes on
-  pub record Goes_on (s : Core K) (v : V) (s' : Core K) (v' : V) : Type 0 where
+  pub record GoesOn (s : Core K) (v : V) (s' : Core K) (v' : V) : Type 0 where
     pub nothing_due : due_of s ≡ []
     pub steps_on : step_of c s ≡ going s'
     pub same_sink : v' ≡ v
 
-  pub when_goes : (s s' : Core K) (v v' : V) → micro c fits after s v ≡ goes s' v' → Goes_on s v s' v'
+  pub when_goes : (s s' : Core K) (v v' : V) → micro c fits after s v ≡ goes s' v' → GoesOn s v s' v'
   when_goes (core st bf q n ph) s' v v' e = due q.due refl e
     where
       stepped : (o : Outcome K) → step c ph st bf q n ≡ o → moved c fits after o v ≡ goes s' v' → (step c ph st bf q n ≡ going s') × (v' ≡ v)
@@ -225,7 +225,7 @@ module _ {K V : Type 0} (c : Setting K) (fits : V → Record → Bool) (after : 
       fitted true x l e = let z : ◌≡◌ {A = ℕ} 0 1 = cc in omega arith
       fitted false x l e = let z : ◌≡◌ {A = ℕ} 0 1 = cc in omega arith
 
-      due : (l : List Record) → q.due ≡ l → micro_due c fits after l st bf q n ph v ≡ goes s' v' → Goes_on (core st bf q n ph) v s' v'
+      due : (l : List Record) → q.due ≡ l → micro_due c fits after l st bf q n ph v ≡ goes s' v' → GoesOn (core st bf q n ph) v s' v'
       due [] d e = let h = stepped (step c ph st bf q n) refl e in record { nothing_due = d; steps_on = h.0; same_sink = h.1 }
       due (x ∷ l) d e = absurd (fitted (fits v x) x l e)
 

@@ -64,7 +64,7 @@ more_same kind (Ok Waiting ∷ told) = ap (λ (n : ℕ). 0 + n) (more_same kind 
 more_same kind (Ok Finished ∷ told) = ap (λ (n : ℕ). 0 + n) (more_same kind told)
 more_same kind (Err f ∷ told) = ap (λ (n : ℕ). 0 + n) (more_same kind told)
 
-order_same : {K : Type 0} (within : K → K → Ordering) (w : Option (Row K)) (l : List (Row K)) → InOrderAfter within w l → plain_law.Goes_on (by_key within) w l
+order_same : {K : Type 0} (within : K → K → Ordering) (w : Option (Row K)) (l : List (Row K)) → InOrderAfter within w l → plain_law.GoesOn (by_key within) w l
 order_same within None l h = h
 order_same within (Some x) l h = h
 
@@ -307,11 +307,11 @@ module _ {K V : Type 0} (kind : Kind) (within across : K → K → Ordering) (fi
       abbrev OrderedAfter : List (Row K) → List (Row K) → Type 0
       OrderedAfter a b = InOrderAfter within (last_of None a) b
 
-      order_s : plain_law.Goes_on (by_key within) (plain_machine.last_of None (take (plain_law.streamed_read s₂) (plain_law.rows_in sl))) (streamed_of kind l r')
-      order_s = subst (λ z. plain_law.Goes_on (by_key within) z (streamed_of kind l r')) (last_is None (take (plain_law.streamed_read s₂) (plain_law.rows_in sl))) (order_same within (last_of None (take (plain_law.streamed_read s₂) (plain_law.rows_in sl))) (streamed_of kind l r') (subst (λ z. OrderedAfter z (streamed_of kind l r')) rows_s (either OrderedAfter (is_right kind) rr lr r' l m.right_in_order m.left_in_order)))
+      order_s : plain_law.GoesOn (by_key within) (plain_machine.last_of None (take (plain_law.streamed_read s₂) (plain_law.rows_in sl))) (streamed_of kind l r')
+      order_s = subst (λ z. plain_law.GoesOn (by_key within) z (streamed_of kind l r')) (last_is None (take (plain_law.streamed_read s₂) (plain_law.rows_in sl))) (order_same within (last_of None (take (plain_law.streamed_read s₂) (plain_law.rows_in sl))) (streamed_of kind l r') (subst (λ z. OrderedAfter z (streamed_of kind l r')) rows_s (either OrderedAfter (is_right kind) rr lr r' l m.right_in_order m.left_in_order)))
 
-      order_b : plain_law.Goes_on (by_key within) (plain_machine.last_of None (take (plain_law.buffered_read s₂) (plain_law.rows_in bl))) (buffered_of kind l r')
-      order_b = subst (λ z. plain_law.Goes_on (by_key within) z (buffered_of kind l r')) (last_is None (take (plain_law.buffered_read s₂) (plain_law.rows_in bl))) (order_same within (last_of None (take (plain_law.buffered_read s₂) (plain_law.rows_in bl))) (buffered_of kind l r') (subst (λ z. OrderedAfter z (buffered_of kind l r')) rows_b (either OrderedAfter (is_right kind) lr rr l r' m.left_in_order m.right_in_order)))
+      order_b : plain_law.GoesOn (by_key within) (plain_machine.last_of None (take (plain_law.buffered_read s₂) (plain_law.rows_in bl))) (buffered_of kind l r')
+      order_b = subst (λ z. plain_law.GoesOn (by_key within) z (buffered_of kind l r')) (last_is None (take (plain_law.buffered_read s₂) (plain_law.rows_in bl))) (order_same within (last_of None (take (plain_law.buffered_read s₂) (plain_law.rows_in bl))) (buffered_of kind l r') (subst (λ z. OrderedAfter z (buffered_of kind l r')) rows_b (either OrderedAfter (is_right kind) lr rr l r' m.left_in_order m.right_in_order)))
 
       longer_s : streamed_of kind (lr ++ l) (rr ++ r') ≡ take (plain_law.streamed_read s₂) (plain_law.rows_in sl) ++ streamed_of kind l r'
       longer_s = side_append (is_right kind) rr r' lr l ∙ ap (λ (z : List (Row K)). z ++ streamed_of kind l r') rows_s

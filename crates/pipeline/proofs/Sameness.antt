@@ -3,7 +3,7 @@ use Rattle.std.proofs.Common.{◌≡◌, ℕ, suc, ◌+◌, ◌<◌, ◌≤◌, 
 use Rattle.std.proofs.lemmas.List.{at_drop_more, at_drop_all}
 use Rattle.rows.specs.declared.row.Row.{Row}
 use Rattle.rows.specs.Order.{is_same}
-use Rattle.pipeline.specs.Held.{same_run, AllSame, Differs, Goes_on}
+use Rattle.pipeline.specs.Held.{same_run, AllSame, Differs, GoesOn}
 use Rattle.pipeline.proofs.Ranges.{counted}
 
 module _ {K : Type 0} (within : K → K → Ordering) (key : K) where
@@ -33,13 +33,13 @@ module _ {K : Type 0} (within : K → K → Ordering) (key : K) where
     go rest Equal e = subst (λ n. Differs within key (drop n (x ∷ l))) (sym (run_same x l e)) rest
     go rest Greater e = subst (λ n. Differs within key (drop n (x ∷ l))) (sym (run_ends x l (ap is_same e))) (λ f. let z : Greater ≡ Equal = sym e ∙ f in let no : ◌≡◌ {A = ℕ} 0 1 = cc in omega arith)
 
-  pub run_goes_on : (l : List (Row K)) → Goes_on within key l (run l)
+  pub run_goes_on : (l : List (Row K)) → GoesOn within key l (run l)
   run_goes_on [] all next = sym (zero-add (run next))
   run_goes_on (x ∷ l) all next = go (run_goes_on l) (within key x.key) refl where
     ends : is_same (within key x.key) ≡ false → run ((x ∷ l) ++ next) ≡ run (x ∷ l) + run next
     ends e = absurd (let z : run (x ∷ l) ≡ 0 = run_ends x l e in omega arith)
 
-    go : Goes_on within key l (run l) → (o : Ordering) → within key x.key ≡ o → run ((x ∷ l) ++ next) ≡ run (x ∷ l) + run next
+    go : GoesOn within key l (run l) → (o : Ordering) → within key x.key ≡ o → run ((x ∷ l) ++ next) ≡ run (x ∷ l) + run next
     go rest Less e = ends (ap is_same e)
     go rest Equal e =
         let one : run (x ∷ l) ≡ suc (run l) = run_same x l e in
@@ -69,12 +69,12 @@ pub record Read {K : Type 0} (within : K → K → Ordering) (key : K) (rows : L
   pub value : n ≡ same_run within key rows
   pub same : AllSame within key (take n rows)
   pub longest : Differs within key (drop n rows)
-  pub onward : Goes_on within key rows n
+  pub onward : GoesOn within key rows n
 
 pub read : {K : Type 0} (within : K → K → Ordering) (key : K) (rows : List (Row K)) (n : ℕ) → n ≡ same_run within key rows → Read within key rows n
 read within key rows n e = record {
   value = e;
   same = subst (λ m. AllSame within key (take m rows)) (sym e) (run_all_same within key rows);
   longest = subst (λ m. Differs within key (drop m rows)) (sym e) (run_differs within key rows);
-  onward = subst (λ m. Goes_on within key rows m) (sym e) (run_goes_on within key rows);
+  onward = subst (λ m. GoesOn within key rows m) (sym e) (run_goes_on within key rows);
 }

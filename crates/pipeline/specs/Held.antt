@@ -148,5 +148,5 @@ Differs within key [] = Unit {0}
 Differs within key (x ∷ l) = within key x.key ≡ Equal → ⊥
 
 -- A run does not end with its batch: where all its rows are same, it goes on with the rows of the next.
-abbrev pub Goes_on : {K : Type 0} → (K → K → Ordering) → K → List (Row K) → ℕ → Type 0
-Goes_on {K} within key rows n = n ≡ length rows → (next : List (Row K)) → same_run within key (rows ++ next) ≡ n + same_run within key next
+abbrev pub GoesOn : {K : Type 0} → (K → K → Ordering) → K → List (Row K) → ℕ → Type 0
+GoesOn {K} within key rows n = n ≡ length rows → (next : List (Row K)) → same_run within key (rows ++ next) ≡ n + same_run within key next

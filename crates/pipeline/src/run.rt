@@ -1,5 +1,5 @@
 ghost use Rattle.std.specs.Prelude.{◌≡◌, take, drop};
-ghost use Rattle.pipeline.specs.Held.{same_run, AllSame, Differs, Goes_on};
+ghost use Rattle.pipeline.specs.Held.{same_run, AllSame, Differs, GoesOn};
 
 use rows::order::KeyOrder;
 use rows::row::Row;
@@ -11,7 +11,7 @@ pub fn same_from<O: KeyOrder>(order: &O, key: &O::Key, rows: &[Row<O::Key>]) -> 
     ensures value { result ≡ same_run (O.KeyOrder.within order.now) key.now rows.now }
     ensures same { AllSame (O.KeyOrder.within order.now) key.now (take result rows.now) }
     ensures longest { Differs (O.KeyOrder.within order.now) key.now (drop result rows.now) }
-    ensures onward { Goes_on (O.KeyOrder.within order.now) key.now rows.now result }
+    ensures onward { GoesOn (O.KeyOrder.within order.now) key.now rows.now result }
 {
     for (i, row) in rows.iter().enumerate() {
         match order.compare_within(key, &row.key) {
