@@ -7,7 +7,7 @@ use Rattle.sources.specs.declared.source.Next.{Next}
 use Rattle.sources.specs.declared.source.Next.TheVariants.{Batch}
 use Rattle.sources.specs.declared.source.Closing.{Closing}
 use Rattle.sources.specs.declared.source.Closing.TheVariants.{End as ended}
-use Rattle.sources.specs.Meaning.{Took, take_of, upcoming}
+use Rattle.sources.specs.Meaning.{take_of, upcoming}
 use Rattle.sources.specs.Memory.{first_cut, cut, Filled, CutEvery}
 use Rattle.sources.proofs.Takes.{takes_first}
 

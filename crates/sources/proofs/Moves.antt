@@ -1,5 +1,5 @@
 -- Rows changed in place, from the first on.
-use Rattle.std.proofs.Common.{◌≡◌, ℕ, ◌+◌, ◌<◌, ◌≤◌, List, [], ◌∷◌, ◌++◌, map, length, get_or, take, drop, set, sym, refl, ap, ◌∙◌, append_assoc, append-nil, arith, take_all, drop-set-lt}
+use Rattle.std.proofs.Common.{◌≡◌, ℕ, ◌+◌, ◌<◌, ◌≤◌, List, [], ◌++◌, map, length, get_or, take, drop, set, sym, ap, ◌∙◌, append_assoc, append-nil, arith, take_all, drop-set-lt}
 use Rattle.std.proofs.lemmas.List.{take_more_set, at_drop_more, at_drop_all}
 
 -- The first i elements are changed by f and the others not yet, out of those that make up `whole` once all are changed.

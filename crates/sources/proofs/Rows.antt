@@ -1,6 +1,6 @@
 -- The rows of a batch's commands, one by one.
 use Rattle.std.proofs.Common.{◌≡◌, ℕ, zero, suc, ◌+◌, ◌-◌, ◌*◌, ◌/◌, ◌<◌, ◌≤◌, List, [], ◌∷◌, ◌++◌, length, get_or, take, drop, set, ℤ, sym, refl, ap, ◌∙◌, suc-mul, zero-mul, div-mul-le_self, mul-div_cancel, arith, w8, to_z}
-use native.Mathlib.Nat.{sub-zero}
+use Rattle.std.proofs.Math.Nat.{sub-zero}
 use Rattle.std.proofs.lemmas.List.{take_rest, append_assoc, take-append-drop, take-take, drop-drop, drop-take, get_or-take, length-take-le, take_more_set, drop-set-lt, length-drop, append-nil}
 use Rattle.std.specs.Int.Digits.{number_from_digits}
 use Rattle.rows.specs.declared.reading.Reading.{Reading}

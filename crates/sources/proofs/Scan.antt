@@ -1,6 +1,6 @@
 -- A scan over a log's commands, row by row, up to the command that closes the batch or the log.
 use Rattle.std.proofs.Common.{◌≡◌, ℕ, zero, suc, ◌+◌, ◌-◌, ◌*◌, ◌<◌, ◌≤◌, true, false, leb, List, [], ◌∷◌, ◌++◌, length, get_or, take, drop, sym, refl, ap, ◌∙◌, suc-mul, zero-mul, arith, Bor, eq-eqb, ne_eqb, le-leb}
-use borrow.Author.Tests.{lt-leb}
+use Rattle.std.proofs.lemmas.Bool.{lt-leb}
 use Rattle.std.proofs.lemmas.List.{drop-drop, length-drop, take_rest}
 use Rattle.sources.specs.declared.batch.Coming.{Coming}
 use Rattle.sources.specs.declared.batch.Coming.TheVariants.{Batch, Closed}

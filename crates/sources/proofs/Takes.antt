@@ -1,16 +1,14 @@
 -- What a take of a batch that fits comes to, and where the rows are changed one by one after it.
-use Rattle.std.proofs.Common.{◌≡◌, ℕ, ◌-◌, ◌<◌, ◌≤◌, Bool, true, false, cond, leb, List, [], ◌∷◌, ◌++◌, map, length, take, drop, Ok, Err, Result, sym, refl, ap, ◌∙◌, arith, le-leb}
-use lib.ListN.{length-map}
+use Rattle.std.proofs.Common.{◌≡◌, ℕ, ◌-◌, ◌≤◌, Bool, true, false, leb, List, [], ◌∷◌, ◌++◌, map, length, take, drop, Ok, Err, Result, sym, refl, ap, ◌∙◌, arith, le-leb}
 use borrow.Rule.Slice.PartMut.{post_of}
-use Rattle.std.proofs.lemmas.List.{take_at, drop_at}
+use Rattle.std.proofs.lemmas.List.{take_at, drop_at, length-map}
 use Rattle.sources.specs.declared.fault.SourceFault.{SourceFault}
 use Rattle.sources.specs.declared.source.Next.{Next}
 use Rattle.sources.specs.declared.source.Next.TheVariants.{Batch, End}
 use Rattle.sources.specs.declared.source.Closing.{Closing}
 use Rattle.sources.specs.declared.source.Closing.TheVariants.{End as ended, Fault as faulted}
 use Rattle.sources.specs.declared.source.TakeRefusal.{TakeRefusal}
-use Rattle.sources.specs.declared.source.TakeRefusal.TheVariants.{TooShort}
-use Rattle.sources.specs.Meaning.{Took, take_of, not_taken, upcoming}
+use Rattle.sources.specs.Meaning.{take_of, upcoming}
 
 module _ {A : Type 0} (batches : List (List A)) (close : Closing) (memory : List A) where
   pub takes_first : (batch : List A) (left : List (List A)) → batches ≡ batch ∷ left → length batch ≤ length memory

@@ -1,5 +1,5 @@
 -- The two kinds of key in a log. What may be missing has a presence before it: 1, or 0 with all its bytes zero.
-use Rattle.std.specs.Prelude.{ℕ, ◌^◌, Bool, true, false, cond, ◌&&◌, ◌||◌, ltb, List, [], ◌∷◌, ◌++◌, length, drop, replicate, Some, None, Option, ◌==◌, nat_eq, nat_lt, slice_index}
+use Rattle.std.specs.Prelude.{ℕ, ◌^◌, Bool, true, false, cond, ◌&&◌, ◌||◌, List, [], ◌∷◌, ◌++◌, length, drop, replicate, Some, None, Option, ◌==◌, nat_lt, slice_index}
 use Rattle.rows.specs.declared.key.FrameKey.{FrameKey}
 use Rattle.rows.specs.declared.key.LabelKey.{LabelKey}
 use Rattle.sources.specs.Layout.{in_bytes, field, Layout}
@@ -33,7 +33,7 @@ frames = record {
   valid = λ bytes. (length bytes == 7) && good_presence (drop 2 bytes);
   decoded = λ bytes. cond (length bytes == 7) (record { node = field 0 2 bytes; number = present (slice_index bytes 2) (field 3 4 bytes) }) (record { node = 0; number = None });
   encoded = λ key. in_bytes 2 key.node ++ optional 4 (in_bytes 4) key.number;
-  fits = λ key. nat_lt key.node (2 ^ 16) && fitting (λ n. ltb n (2 ^ 32)) key.number;
+  fits = λ key. nat_lt key.node (2 ^ 16) && fitting (λ n. nat_lt n (2 ^ 32)) key.number;
 }
 
 -- a label key: presence 1, label 12; bytes that are no key's count as one that is missing
@@ -44,5 +44,5 @@ labels = record {
   valid = λ bytes. (length bytes == 13) && good_presence bytes;
   decoded = λ bytes. cond (length bytes == 13) (record { label = present (slice_index bytes 0) (drop 1 bytes) }) (record { label = None });
   encoded = λ key. optional 12 (λ bytes. bytes) key.label;
-  fits = λ key. fitting (λ bytes. nat_eq (length bytes) 12) key.label;
+  fits = λ key. fitting (λ bytes. length bytes == 12) key.label;
 }

@@ -1,7 +1,6 @@
 -- What a log means, from its format: bytes are read as commands, and commands as batches and a close.
 use Rattle.std.specs.Prelude.{ℕ, zero, suc, ◌+◌, ◌-◌, cond, List, [], ◌∷◌, ◌++◌, length, take, drop, ◌==◌, nat_le, slice_index}
-use Rattle.std.specs.Int.{w8}
-use Rattle.std.proofs.Common.{to_z}
+use Rattle.std.specs.Int.{w8, cast_signed}
 use Rattle.rows.specs.declared.reading.Reading.{Reading}
 use Rattle.rows.specs.declared.row.Row.{Row}
 use Rattle.sources.specs.declared.fault.SourceFault.{SourceFault}
@@ -23,7 +22,7 @@ pub data Commands (K : Type 0) : Type 0 where
 
 -- moment 4, level 1 (two's complement), receiver 2
 abbrev pub reading_of : List ℕ → Reading
-reading_of bytes = record { moment = field 0 4 bytes; level = to_z w8 (slice_index bytes 4); receiver = field 5 2 bytes }
+reading_of bytes = record { moment = field 0 4 bytes; level = cast_signed w8 (slice_index bytes 4); receiver = field 5 2 bytes }
 
 -- the row in the operands of 01
 abbrev pub row_of : {K : Type 0} → Layout K → List ℕ → Row K

@@ -1,5 +1,5 @@
 -- Rows in memory, cut every n rows.
-use Rattle.std.specs.Prelude.{◌≡◌, ℕ, zero, suc, ◌≤◌, max, List, [], ◌∷◌, ◌++◌, length, take, drop}
+use Rattle.std.specs.Prelude.{◌≡◌, ℕ, zero, suc, ◌≤◌, max, List, [], ◌∷◌, length, take, drop}
 use Rattle.std.specs.List.{flat_map}
 use Rattle.rows.specs.declared.row.Row.{Row}
 use Rattle.sources.specs.declared.memory.Memory.{Memory}

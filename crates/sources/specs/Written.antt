@@ -1,7 +1,6 @@
 -- The bytes of a list of batches: 00 with the kind of key, each row as 01, each batch closed by 02, then 03.
 use Rattle.std.specs.Prelude.{◌≡◌, ℕ, ◌^◌, ◌<◌, true, List, [], ◌∷◌, ◌++◌, FitsSigned}
-use Rattle.std.specs.Int.{w8}
-use Rattle.std.proofs.Common.{of_z}
+use Rattle.std.specs.Int.{w8, cast_unsigned}
 use Rattle.std.specs.List.{flat_map, AllByRecursion as All}
 use Rattle.rows.specs.declared.reading.Reading.{Reading}
 use Rattle.rows.specs.declared.row.Row.{Row}
@@ -10,7 +9,7 @@ use Rattle.sources.specs.declared.source.Closing.TheVariants.{End}
 use Rattle.sources.specs.Layout.{in_bytes, Layout}
 
 abbrev pub reading_bytes : Reading → List ℕ
-reading_bytes r = in_bytes 4 r.moment ++ (of_z w8 r.level ∷ in_bytes 2 r.receiver)
+reading_bytes r = in_bytes 4 r.moment ++ (cast_unsigned w8 r.level ∷ in_bytes 2 r.receiver)
 
 abbrev pub row_bytes : {K : Type 0} → Layout K → Row K → List ℕ
 row_bytes L r = 1 ∷ (L.encoded r.key ++ reading_bytes r.reading)

@@ -1,4 +1,4 @@
-ghost use Rattle.std.specs.Prelude.{◌≡◌, List, [], ◌∷◌, ◌++◌};
+ghost use Rattle.std.specs.Prelude.{◌≡◌, List};
 ghost use Rattle.rows.specs.declared.row.Row.{Row as RowOf};
 ghost use Rattle.sources.specs.declared.source.Closing.{Closing as ClosingOf};
 ghost use Rattle.sources.specs.Meaning.{upcoming, take_of, refusal_number};

@@ -8,17 +8,17 @@ use Rattle.sources.proofs.batch.take_apart.Goals as goal
 pub returns : goal.returns
 returns g c =
     let bytes = c.args.bytes.now in
-    let after = c.split-at.result.1.now in
-    let back : after ≡ drop g.F.KeyKind.layout.width bytes = rw c.key-width-width.ensures at c.split-at.ensures.back in
+    let after = c.split_at.result.1.now in
+    let back : after ≡ drop g.F.KeyKind.layout.width bytes = rw c.key_width-width.ensures at c.split_at.ensures.back in
     let long : 7 ≤ length after = search rules in
     record {
-      whole = omega (arith, c.key-width-width.ensures, c.split-at.ensures.back_len, long);
-      key = rw c.key-width-width.ensures at c.split-at.ensures.front;
+      whole = omega (arith, c.key_width-width.ensures, c.split_at.ensures.back_len, long);
+      key = rw c.key_width-width.ensures at c.split_at.ensures.front;
       reading =
           c.new.ensures
-          ∙ reading_is after _ _ _ long c.from-be-bytes.ensures
-          (ap (λ z. to_z w8 (of_z w8 z)) c.from-be-bytes-2.ensures ∙ ap (to_z w8) (of_z-to_z w8 (get_or after 4 0) (search rules)))
-          c.from-be-bytes-3.ensures
+          ∙ reading_is after _ _ _ long c.from_be_bytes.ensures
+          (ap (λ z. to_z w8 (of_z w8 z)) c.from_be_bytes-2.ensures ∙ ap (to_z w8) (of_z-to_z w8 (get_or after 4 0) (search rules)))
+          c.from_be_bytes-3.ensures
           ∙ ap reading_of back;
       rest = take_rest after 7 ∙ ap (drop 7) back ∙ drop-drop 7 g.F.KeyKind.layout.width bytes;
     }

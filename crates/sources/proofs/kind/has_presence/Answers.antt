@@ -6,4 +6,4 @@ use Rattle.sources.proofs.kind.has_presence.Goals as goal
 pub returns-in-0 : goal.returns-in-0
 returns-in-0 c =
     let bytes = c.args.bytes.now in
-    c.is-zero.ensures ∙ missing_presence bytes _ (search rules) (search rules) (take_rest bytes 1)
+    c.is_zero.ensures ∙ missing_presence bytes _ (search rules) (search rules) (take_rest bytes 1)
