@@ -4,13 +4,12 @@ use Rattle.std.specs.List.{AllByRecursion as All}
 use Rattle.std.proofs.ByRecursion.{All-append, All-weaker}
 use Rattle.rows.specs.declared.record.Record.{Record}
 use Rattle.merge.specs.Sides.{oriented}
-use Rattle.law.specs.Pipe.{Mark, pipe, plain, fixeds, alones, put}
+use Rattle.law.specs.Pipe.{Mark, pipe, fixeds, alones, put}
 use Rattle.law.specs.Pipe.{Entry as plain_entry, freeze as plain_freeze, freeze_all as plain_freeze_all, correct as plain_correct, corrected as plain_corrected, flush as plain_flush, marking as plain_marking}
 use Rattle.pipeline.specs.declared.entry.Entry.{Entry}
 use Rattle.pipeline.specs.declared.states.FilterState.{FilterState}
 use Rattle.pipeline.specs.States.{marking}
 use Rattle.pipeline.specs.Freezing.{judged_all}
-use Rattle.pipeline.specs.Correction.{corrected}
 use Rattle.pipeline.specs.Block.{Queued, freeze, freeze_all, release, correct}
 use Rattle.machine.specs.Machine.{Setting, deferred, let_go, flush}
 use Rattle.machine.proofs.Entries.{mark_of, entry_of, place_of, Made, Frozen, Noted, entries_judged, entries_append, frozen_judged, released, corrected_is, marking_is, noted_are}

@@ -21,7 +21,7 @@ use Rattle.pipeline.specs.States.{marking}
 use Rattle.pipeline.specs.Block.{Queued, freeze}
 use Rattle.machine.specs.declared.fault.JoinFault.{JoinFault}
 use Rattle.machine.specs.declared.fault.JoinFault.TheVariants.{Unsorted, TableFull, TooManyRows, Source}
-use Rattle.machine.specs.Machine.{Setting, Phase, fetching, closing, Streamed, Buffered, Counts, Outcome, deferred, let_go, disorder, last_of, streamed_side, buffered_side, stops, after_fetch, fetch_checked, fetch_taken, fetch_from, fetch, most_rows}
+use Rattle.machine.specs.Machine.{Setting, fetching, Streamed, Buffered, Counts, Outcome, deferred, let_go, disorder, last_of, streamed_side, buffered_side, stops, after_fetch, fetch_checked, fetch_taken, fetch_from, fetch, most_rows}
 use Rattle.machine.proofs.Entries.{frozen_judged}
 use Rattle.machine.proofs.Plain.{side_of, fault_of, closing_of, phase_of, streamed_of, buffered_of, counts_of, plain_setting, pipe_of, state_at, Whole, WholeStreamed, WholeBuffered, WholeBlock, Poised, Ahead, Opening, first_of}
 use Rattle.machine.proofs.Block.{block, frozen_is, let_go_whole}

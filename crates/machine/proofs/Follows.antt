@@ -24,7 +24,7 @@ use Rattle.pipeline.specs.Orient.{left_of, right_of, streamed_alone, paired, buf
 use Rattle.pipeline.specs.Freezing.{judged_all}
 use Rattle.pipeline.specs.Block.{Queued, pushed}
 use Rattle.pipeline.specs.Held.{pairs_with, matching}
-use Rattle.machine.specs.Machine.{Setting, Phase, fetching, closing, turning, passing, done, pairing, Streamed, Buffered, Counts, Core, core, Outcome, deferred, marked_by, freeze_full, pair_row, lone_row, row_at, place, pass_row, next_row, close, go_on, with_holding, counted_row}
+use Rattle.machine.specs.Machine.{Setting, Phase, fetching, closing, turning, passing, pairing, Streamed, Buffered, Counts, Core, core, Outcome, deferred, marked_by, freeze_full, pair_row, lone_row, row_at, place, pass_row, next_row, close, go_on, with_holding, counted_row}
 use Rattle.machine.specs.Machine.{going as goes, answered as says}
 use Rattle.machine.proofs.Entries.{mark_of, entry_of, place_of, Made, Frozen, Noted, oriented_streamed, place_of_pair, entries_append, length_marking}
 use Rattle.machine.proofs.Plain.{answer_of, closing_of, row_of, Placed, phase_of, streamed_of, buffered_of, counts_of, plain_setting, pipe_of, state_at, state_of, Whole, WholeStreamed, WholeBuffered, Poised}

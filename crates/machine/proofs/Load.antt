@@ -24,7 +24,7 @@ use Rattle.pipeline.specs.Block.{Queued}
 use Rattle.pipeline.specs.Held.{Holding, on_last, longer, same_run, most_end}
 use Rattle.pipeline.specs.Held.{pushed as with_batch}
 use Rattle.machine.specs.declared.fault.JoinFault.TheVariants.{Unsorted, TableFull, TooManyBatches, TooManyRows, Source}
-use Rattle.machine.specs.Machine.{Setting, Phase, extending, closing, Streamed, Buffered, Counts, Outcome, disorder, last_of, buffered_side, stops, load_checked, load_from, load, seed, most_rows, most_batches}
+use Rattle.machine.specs.Machine.{Setting, Phase, Streamed, Buffered, Counts, Outcome, disorder, last_of, buffered_side, load_checked, load_from, most_rows, most_batches}
 use Rattle.machine.specs.Machine.{going as goes, answered as says}
 use Rattle.machine.proofs.Entries.{mark_of, entry_of, place_of}
 use Rattle.machine.proofs.Plain.{closing_of, phase_of, streamed_of, buffered_of, counts_of, plain_setting, pipe_of, size_of, WholeStreamed, WholeBuffered, WholeBlock, Poised, reach, FullButLast, first_start, first_rows}

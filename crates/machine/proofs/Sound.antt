@@ -1,5 +1,5 @@
 -- How the sources close never changes, and a join that has stopped stays so.
-use Rattle.std.proofs.Common.{◌≡◌, ℕ, suc, ◌+◌, ◌-◌, Bool, true, false, cond, not, ◌&&◌, ◌||◌, ltb, leb, ◌⊎◌, List, [], ◌∷◌, ◌++◌, length, take, drop, Some, None, Ok, Err, Option, Ordering, Less, Equal, Greater, sym, refl, ap, ◌∙◌, subst, inl, inr}
+use Rattle.std.proofs.Common.{◌≡◌, ℕ, suc, ◌+◌, ◌-◌, Bool, true, false, cond, ◌&&◌, ◌||◌, ltb, leb, ◌⊎◌, List, [], ◌∷◌, ◌++◌, length, take, drop, Some, None, Ok, Err, Option, Ordering, Less, Equal, Greater, sym, refl, ap, ◌∙◌, subst, inl, inr}
 use mathlib.Core.Bool.{false≢true}
 use Rattle.std.proofs.lemmas.Bool.{or_cases, or_left, or_right}
 use Rattle.rows.specs.declared.kind.Side.{Side}
@@ -15,7 +15,7 @@ use Rattle.pipeline.specs.Orient.{streamed_alone}
 use Rattle.pipeline.specs.Block.{Queued, pushed}
 use Rattle.pipeline.specs.Held.{leaving, extended, same_run, pairs_with}
 use Rattle.machine.specs.declared.answer.Answer.TheVariants.{Waiting}
-use Rattle.machine.specs.Machine.{Setting, Told, Phase, fetching, seeding, extending, closing, turning, passing, done, pairing, stopped, Streamed, Buffered, Counts, Core, core, Outcome, going, answered, Moved, goes, hands_over, says, moved, handed, counted_record, micro_due, micro, Turned, answers, steps, hands, row_at, disorder, streamed_read, buffered_read, most_rows, most_batches, freeze_full, fetch_checked, fetch_taken, fetch_from, load_checked, load_from, extend_from, with_holding, part, is_lone, lone_row, compared, comparison, run_head, pair_row, close, go_on, step, has_batch, place}
+use Rattle.machine.specs.Machine.{Setting, Told, Phase, fetching, seeding, extending, closing, turning, passing, done, pairing, stopped, Streamed, Buffered, Counts, Core, core, Outcome, going, answered, Moved, goes, hands_over, says, moved, handed, counted_record, micro_due, micro, Turned, answers, steps, hands, row_at, disorder, streamed_read, buffered_read, most_rows, most_batches, freeze_full, fetch_checked, fetch_taken, fetch_from, load_checked, load_from, extend_from, with_holding, part, is_lone, lone_row, compared, comparison, run_head, pair_row, go_on, step, has_batch, place}
 use Rattle.machine.specs.Law.{fails, has_failed}
 
 abbrev pub Closes : {K : Type 0} → Streamed K → Buffered K → Streamed K → Buffered K → Type 0

@@ -7,7 +7,6 @@ use Rattle.rows.specs.declared.record.Record.{Record}
 use Rattle.rows.specs.declared.row.Row.{Row}
 use Rattle.rows.specs.Order.{Laws}
 use Rattle.sources.specs.declared.fault.SourceFault.{SourceFault}
-use Rattle.sources.specs.declared.source.Closing.{Closing}
 use Rattle.merge.specs.Table.{when}
 use Rattle.merge.specs.Merging.{by_key}
 use Rattle.merge.specs.Sides.{oriented}

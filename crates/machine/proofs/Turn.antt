@@ -13,7 +13,7 @@ use Rattle.sources.specs.declared.fault.SourceFault.{SourceFault}
 use Rattle.merge.specs.Table.{when}
 use Rattle.merge.specs.Sides.{oriented, is_outer}
 use Rattle.merge.specs.Sides.{is_full as is_full_kind}
-use Rattle.law.specs.Pipe.{Mark, Pipe, pipe, places, fixeds, first_leaves, given_by, put, Left, left}
+use Rattle.law.specs.Pipe.{Mark, Pipe, pipe, places, fixeds, first_leaves, given_by, put, Left}
 use Rattle.law.specs.Pipe.{Entry as plain_entry, leave as plain_leave, part as plain_part, marking as plain_marking, flush as plain_flush}
 use Rattle.law.specs.Machine as plain_machine
 use Rattle.law.specs.Machine.{going}
@@ -24,8 +24,8 @@ use Rattle.pipeline.specs.States.{marking}
 use Rattle.pipeline.specs.Freezing.{judged_all}
 use Rattle.pipeline.specs.Batches.{rows_of}
 use Rattle.pipeline.specs.Block.{Queued, lone_rows}
-use Rattle.pipeline.specs.Held.{Holding, is_consumed, leaving, passed, placed, run_from, run_at}
-use Rattle.machine.specs.Machine.{Setting, seeding, turning, passing, pairing, Streamed, Buffered, Counts, core, Outcome, deferred, let_go, counted_run, row_at, leave_all, part, is_lone, note_run, pass_run, lone_row, head_start, to_pair, compared, run_head, comparison, turn, has_batch}
+use Rattle.pipeline.specs.Held.{Holding, is_consumed, leaving, placed, run_from, run_at}
+use Rattle.machine.specs.Machine.{Setting, seeding, turning, Streamed, Buffered, Counts, core, Outcome, deferred, let_go, counted_run, row_at, leave_all, part, is_lone, note_run, pass_run, lone_row, head_start, to_pair, compared, run_head, comparison, turn, has_batch}
 use Rattle.machine.specs.Machine.{going as goes}
 use Rattle.machine.proofs.Entries.{mark_of, entry_of, Frozen, Noted, entries_append, entries_judged, frozen_judged, marking_is, length_marking}
 use Rattle.machine.proofs.Plain.{closing_of, row_of, streamed_of, buffered_of, run_of, counts_of, plain_setting, pipe_of, state_at, size_of, Whole, WholeBuffered, WholeBlock, Placed, reach, FullButLast, first_start, first_rows}

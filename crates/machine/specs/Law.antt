@@ -1,5 +1,5 @@
 -- The law of runs: what whoever opens a join and works it by turn and report alone finds after every call.
-use Rattle.std.specs.Prelude.{◌≡◌, ℕ, ◌+◌, ◌≤◌, min, Bool, true, false, cond, not, ◌&&◌, ◌||◌, List, [], ◌∷◌, ◌++◌, length, take, Some, None, Ok, Err, Option}
+use Rattle.std.specs.Prelude.{◌≡◌, ℕ, ◌+◌, ◌≤◌, min, Bool, true, false, not, ◌&&◌, ◌||◌, List, [], ◌∷◌, ◌++◌, length, take, Some, None, Ok, Err, Option}
 use Rattle.std.specs.declared.cmp.Ordering.{Ordering}
 use Rattle.std.specs.List.{ContainsAt as Has, AllByRecursion as All}
 use Rattle.std.specs.List.Sorted.{IsPermutation}
@@ -8,7 +8,6 @@ use Rattle.rows.specs.declared.kind.Side.{Side}
 use Rattle.rows.specs.declared.kind.Side.TheVariants.{Left, Right}
 use Rattle.rows.specs.declared.record.Record.{Record}
 use Rattle.rows.specs.declared.row.Row.{Row}
-use Rattle.rows.specs.Order.{Laws}
 use Rattle.sources.specs.declared.source.Closing.{Closing}
 use Rattle.sources.specs.declared.source.Closing.TheVariants.{End, Fault}
 use Rattle.sinks.specs.Meaning.{Led}
@@ -20,7 +19,6 @@ use Rattle.merge.specs.Sides.{streamed_of, buffered_of, left_of, right_of, is_ou
 use Rattle.merge.specs.Joined.{Asks, lets_through, passes, InTable, joined}
 use Rattle.merge.specs.Merging.{by_key}
 use Rattle.machine.specs.declared.answer.Answer.TheVariants.{More, Waiting, Finished}
-use Rattle.machine.specs.declared.fault.JoinFault.{JoinFault}
 use Rattle.machine.specs.declared.fault.JoinFault.TheVariants.{Unsorted, TableFull, TooManyBatches, TooManyRows, Source}
 use Rattle.machine.specs.Machine.{Setting, Told, Core, core, opened, Turned, last_of, most_handed}
 use Rattle.machine.specs.Report.{reported}

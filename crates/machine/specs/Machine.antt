@@ -13,13 +13,12 @@ use Rattle.rows.specs.declared.row.Row.{Row}
 use Rattle.sources.specs.declared.source.Closing.{Closing}
 use Rattle.sources.specs.declared.source.Closing.TheVariants.{End as ended, Fault as faulted}
 use Rattle.pipeline.specs.declared.entry.Entry.{Entry}
-use Rattle.pipeline.specs.declared.entry.StreamedRow.{StreamedRow}
 use Rattle.pipeline.specs.declared.batch.BufferedBatch.{BufferedBatch}
 use Rattle.pipeline.specs.declared.states.FilterState.{FilterState}
 use Rattle.pipeline.specs.declared.states.FilterState.TheVariants.{Unvisited}
 use Rattle.merge.specs.Sides.{is_outer, is_full}
 use Rattle.pipeline.specs.Entries.{lone}
-use Rattle.pipeline.specs.Orient.{left_of, right_of, streamed_alone}
+use Rattle.pipeline.specs.Orient.{streamed_alone}
 use Rattle.pipeline.specs.States.{marking}
 use Rattle.pipeline.specs.Freezing.{judged_all}
 use Rattle.pipeline.specs.Block.{Queued, pushed, noting, freeze, freeze_all, release, correct, leave}

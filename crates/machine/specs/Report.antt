@@ -1,5 +1,5 @@
 -- What a report says of a join.
-use Rattle.std.specs.Prelude.{ℕ, ◌+◌, List, [], ◌∷◌, length}
+use Rattle.std.specs.Prelude.{List, [], ◌∷◌}
 use Rattle.rows.specs.declared.kind.Kind.{Kind}
 use Rattle.rows.specs.declared.record.Record.{Record}
 use Rattle.merge.specs.Sides.{left_of, right_of}

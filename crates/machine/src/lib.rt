@@ -3,4 +3,4 @@
 
 pub mod answer;
 pub mod fault;
-pub mod law;
+pub mod law_of_runs;
