@@ -1,8 +1,7 @@
 -- What a load of the machine comes to, by what the source says of the next batch's size.
-use Rattle.std.proofs.Common.{◌≡◌, ℕ, zero, suc, ◌+◌, ◌-◌, ◌<◌, ◌≤◌, Bool, true, false, cond, not, leb, List, [], ◌∷◌, ◌++◌, length, take, drop, Ok, Err, Option, Result, sym, refl, ap, ◌∙◌, subst, arith}
+use Rattle.std.proofs.Common.{◌≡◌, ℕ, suc, ◌+◌, ◌≤◌, Bool, true, false, cond, not, leb, List, [], ◌∷◌, length, take, drop, Ok, Err, Result, sym, refl, ap, ◌∙◌, arith}
 use Rattle.std.proofs.lemmas.List.{take_at}
 use Rattle.rows.specs.declared.row.Row.{Row}
-use Rattle.sources.specs.declared.fault.SourceFault.{SourceFault}
 use Rattle.sources.specs.declared.source.Closing.{Closing}
 use Rattle.sources.specs.declared.source.Closing.TheVariants.{End as ended, Fault as faulted}
 use Rattle.sources.specs.declared.source.Next.{Next}
@@ -11,7 +10,7 @@ use Rattle.sources.specs.Meaning.{upcoming, take_of, Took}
 use Rattle.sources.proofs.Takes.{takes_first}
 use Rattle.pipeline.specs.declared.entry.Entry.{Entry}
 use Rattle.pipeline.specs.Block.{Queued, freeze}
-use Rattle.machine.specs.Machine.{Setting, Streamed, Buffered, Counts, Phase, fetching, Core, core, Outcome, going, answered, most_rows, streamed_read, buffered_read, streamed_side, buffered_side, deferred, is_deferred, let_go, marked_by, disorder, stops, after_fetch, fetch_checked, fetch_taken, fetch_from, skipped, at_end, load_from, load_checked, passed_over, most_batches}
+use Rattle.machine.specs.Machine.{Setting, Streamed, Buffered, Counts, Phase, fetching, core, Outcome, going, most_rows, streamed_read, buffered_read, streamed_side, buffered_side, deferred, let_go, marked_by, disorder, stops, after_fetch, fetch_checked, fetch_taken, fetch_from, skipped, at_end, load_from, load_checked, passed_over, most_batches}
 use Rattle.join.specs.declared.load.LoadFault.{LoadFault}
 use Rattle.join.specs.declared.load.LoadFault.TheVariants.{TableFull, TooManyBatches, TooManyRows, Source}
 use Rattle.join.specs.Loads.{on_side, checked}

@@ -1,5 +1,5 @@
 -- A turn that flushes the block, and one that notes the streamed row alone, against the machine's.
-use Rattle.std.proofs.Common.{◌≡◌, ℕ, ◌+◌, ◌<◌, ◌≤◌, Bool, true, cond, List, [], ◌∷◌, length, take, sym, ap, ◌∙◌, arith}
+use Rattle.std.proofs.Common.{◌≡◌, ◌+◌, ◌<◌, ◌≤◌, Bool, true, cond, [], ◌∷◌, length, take, sym, ap, ◌∙◌, arith}
 use Rattle.std.proofs.lemmas.Bool.{le-leb, lt-leb}
 use Rattle.merge.specs.Sides.{is_outer}
 use Rattle.pipeline.specs.Block.{Queued, Roomy, queued, pushed, freeze_all}

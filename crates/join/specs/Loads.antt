@@ -1,5 +1,5 @@
 -- What the checks of a load come to.
-use Rattle.std.specs.Prelude.{ℕ, zero, suc, ◌+◌, Bool, true, false, cond, Some, None, Ok, Err, Option, Result, nat_le}
+use Rattle.std.specs.Prelude.{ℕ, zero, suc, ◌+◌, Bool, false, cond, Some, None, Ok, Err, Option, Result, nat_le}
 use Rattle.std.specs.declared.cmp.Ordering.{Ordering}
 use Rattle.rows.specs.declared.kind.Side.{Side}
 use Rattle.sources.specs.declared.fault.SourceFault.{SourceFault}

@@ -45,8 +45,8 @@ impl<K: Copy> Join<K> {
         table: &mut [Row<K>],
         block: &mut [Entry],
     ) -> Step
-        requires phase_value { (self.old.phase ≡ Fetching first) × (self.old.queue.due ≡ 0) }
-        requires table_len { (length table.old ≡ self.old.limits.streamed) × (length block.old ≡ self.old.limits.block) }
+        requires phase { (self.old.phase ≡ Fetching first) × (self.old.queue.due ≡ 0) }
+        requires lengths { (length table.old ≡ self.old.limits.streamed) × (length block.old ≡ self.old.limits.block) }
         ensures does { (bl : List (List (RowOf K))) (bc : ClosingOf) (bt : List (RowOf K)) →
             Stepped (step_of (setting self.old.limits (O.KeyOrder.within order.now) (O.KeyOrder.across order.now) (asking F.Filter.says filter.now) (is_some filter.now))
             (core_of self.old (memory (S.Source.batches source.old) (S.Source.closing source.old) bl bc table.old bt block.old)))

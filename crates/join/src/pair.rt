@@ -119,8 +119,8 @@ impl<K: Copy> Join<K> {
         filter: &Option<F>,
         block: &mut [Entry],
     )
-        requires due_value { (self.old.queue.due ≡ 0) × ((self.old.queue.unfrozen + count ≤ self.old.limits.batch) × (length block.old ≡ self.old.limits.block)) }
-        requires phase_bound { self.old.queue.frozen + self.old.queue.unfrozen + self.old.queue.noted + count + pending self.old.phase ≤ self.old.limits.batch + self.old.limits.buffered }
+        requires room { (self.old.queue.due ≡ 0) × ((self.old.queue.unfrozen + count ≤ self.old.limits.batch) × (length block.old ≡ self.old.limits.block)) }
+        requires bounded { self.old.queue.frozen + self.old.queue.unfrozen + self.old.queue.noted + count + pending self.old.phase ≤ self.old.limits.batch + self.old.limits.buffered }
         ensures does { (within : K → K → Compared) (across : K → K → Compared) (sl : List (List (RowOf K))) (sc : ClosingOf) (bl : List (List (RowOf K))) (bc : ClosingOf) (st : List (RowOf K)) (bt : List (RowOf K)) →
             adding (setting self.old.limits within across (asking F.Filter.says filter.now) (is_some filter.now)) count self.old (memory sl sc bl bc st bt block.old)
             ≡ going (core_of self.new (memory sl sc bl bc st bt block.new)) }

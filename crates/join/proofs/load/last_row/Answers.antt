@@ -1,4 +1,4 @@
-use Rattle.std.proofs.Common.{◌≡◌, ◌≤◌, length, Some, sym, ap, ◌∙◌, arith}
+use Rattle.std.proofs.Common.{◌≤◌, length, Some, sym, ap, ◌∙◌, arith}
 use Rattle.rows.specs.declared.row.Row.{Row}
 use Rattle.join.proofs.Lists.{last_is, last_none}
 use Rattle.join.proofs.load.last_row.Goals as goal

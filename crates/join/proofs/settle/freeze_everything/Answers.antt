@@ -6,8 +6,8 @@ use Rattle.pipeline.proofs.Queues.{counts}
 use Rattle.join.proofs.Settling.{made_by, freezes_now, freeze_all_count, marked}
 use Rattle.join.proofs.settle.freeze_everything.Goals as goal
 
-pub let-frozen-go-requires : goal.let-frozen-go-requires
-let-frozen-go-requires g c =
+pub let_frozen_go-requires : goal.let_frozen_go-requires
+let_frozen_go-requires g c =
     let q = c.args.queue.now in
     let block = c.args.block.now in
     let room = c.requires.0 in
@@ -23,7 +23,7 @@ returns g c =
     let asks = asking g.F.Filter.says c.args.filter.now in
     let m = made_by c.freeze_all.ensures.block (freezes_now q block room c.requires.1) room in
     let n = counts q block room in
-    let after = c.let-frozen-go.ensures in
+    let after = c.let_frozen_go.ensures in
     record {
       queue = after.queue ∙ ap (let_go (is_deferred (is_some c.args.filter.now) c.args.kind)) m.holds;
       states = marked c.args.kind asks c.args.base (judged_all asks (queued q block).unfrozen) c.args.states.now c.freeze_all.new.states c.freeze_all.result m.answers c.freeze_all.ensures.states;

@@ -1,4 +1,4 @@
-use Rattle.std.proofs.Common.{◌≡◌, is_some, refl, arith}
+use Rattle.std.proofs.Common.{is_some, refl, arith}
 use Rattle.pipeline.specs.Freezing.{asking}
 use Rattle.pipeline.specs.States.{states_of}
 use Rattle.join.specs.Shows.{memory, setting}
@@ -10,7 +10,7 @@ returns-then-self g c = record {
   does = λ within across sl sc bl bc st bt.
       let j = c.args.self.now in
       freezes_shown (setting j.limits within across (asking g.F.Filter.says c.args.filter.now) (is_some c.args.filter.now)) j (memory sl sc bl bc st bt c.args.block.now) refl c.args.count
-      c.requires.0.0 (omega arith) c.if-self.true c.freeze-everything.new.queue c.freeze-everything.new.block (states_of c.freeze-everything.new.states) c.freeze-everything.ensures.queue c.freeze-everything.ensures.states.0;
+      c.requires.room.0 (omega arith) c.if-self.true c.freeze_everything.new.queue c.freeze_everything.new.block (states_of c.freeze_everything.new.states) c.freeze_everything.ensures.queue c.freeze_everything.ensures.states.0;
   limits = refl;
 }
 
@@ -19,6 +19,6 @@ returns-else-self g c = record {
   does = λ within across sl sc bl bc st bt.
       let j = c.args.self.now in
       adds_shown (setting j.limits within across (asking g.F.Filter.says c.args.filter.now) (is_some c.args.filter.now)) j (memory sl sc bl bc st bt c.args.block.now) refl c.args.count
-      c.requires.0.0 (omega arith) c.if-self.false;
+      c.requires.room.0 (omega arith) c.if-self.false;
   limits = refl;
 }

@@ -1,5 +1,5 @@
-use Rattle.std.proofs.Common.{◌≡◌, take, sym, refl, ap, ◌∙◌, arith}
-use Rattle.machine.specs.Machine.{Setting, head_start}
+use Rattle.std.proofs.Common.{◌≡◌, take, sym, refl, ◌∙◌, arith}
+use Rattle.machine.specs.Machine.{head_start}
 use Rattle.join.proofs.Pairs.{head_none, head_first, begins}
 use Rattle.join.proofs.state.Join.begin_pairs.Goals as goal
 

@@ -31,7 +31,7 @@ returns g c = record {
       let by = g.O.KeyOrder.across c.args.order.now in
       let x' = get_or c.args.streamed.now c.args.self.now.streamed.at x in
       let y' = get_or c.args.buffered.now c.args.self.now.buffered.start y in
-      let is_o : ◌≡◌ {A = Ordering} c.compare-across.result (by x'.key y'.key) = c.compare-across.ensures in
+      let is_o : ◌≡◌ {A = Ordering} c.compare_across.result (by x'.key y'.key) = c.compare_across.ensures in
       let keys : ◌≡◌ {A = Ordering} (by x'.key y'.key) (by x.key y.key) =
       ap (λ (z : Row g.row.K.Denot). by z.key y'.key) (sym c.index-streamed-at.is) ∙ ap (λ (z : Row g.row.K.Denot). by x.key z.key) (sym c.index-buffered-start.is) in
       ap (λ (o : Ordering). Some o) (is_o ∙ keys ∙ ap (λ (f : g.row.K.Denot → g.row.K.Denot → Ordering). f x.key y.key) (sym across))

@@ -18,9 +18,9 @@ returns-in-Err g c =
     let sl = g.S.Source.batches c.args.source.now in
     let sc = g.S.Source.closing c.args.source.now in
     record {
-      does = λ bl bc bt. fetch_stops s j c.args.first sl sc bl bc c.args.table.now bt c.args.block.now c.read-read.result c.requires.0.0 c.requires.1.0 c.read-read.ensures
-          c.in-Err.fault c.streamed-side-of-side.result c.on.result c.stop.result _
-          c.in-Err.ensures c.streamed-side-of-side.ensures c.on.ensures c.stop.ensures.says (c.stop.ensures.does (memory sl sc bl bc c.args.table.now bt c.args.block.now));
+      does = λ bl bc bt. fetch_stops s j c.args.first sl sc bl bc c.args.table.now bt c.args.block.now c.read-read.result c.requires.phase.0 c.requires.lengths.0 c.read-read.ensures
+          c.in-Err.fault c.streamed_side_of-side.result c.on.result c.stop.result _
+          c.in-Err.ensures c.streamed_side_of-side.ensures c.on.ensures c.stop.ensures.says (c.stop.ensures.does (memory sl sc bl bc c.args.table.now bt c.args.block.now));
       limits = c.stop.ensures.limits;
     }
 
@@ -37,9 +37,9 @@ returns-then-self-gt0 g c =
     let told = c.in-Ok-Batch.ensures in
     let says : Ok (Batch n) ≡ checked (upcoming sl sc) c.read-read.result false j.limits.streamed = cc in
     record {
-      does = λ bl bc bt. fetch_froze s j c.args.first sl sc bl bc c.args.table.now bt c.args.block.now c.read-read.result c.requires.0.0 c.requires.1.0 c.read-read.ensures
-          n (states_of c.freeze-unfrozen.new.states) (queued c.freeze-unfrozen.new.queue c.freeze-unfrozen.new.block)
-          says some c.if-self-gt0.true c.requires.1.1 c.freeze-unfrozen.ensures.states.0 c.freeze-unfrozen.ensures.queue;
+      does = λ bl bc bt. fetch_froze s j c.args.first sl sc bl bc c.args.table.now bt c.args.block.now c.read-read.result c.requires.phase.0 c.requires.lengths.0 c.read-read.ensures
+          n (states_of c.freeze_unfrozen.new.states) (queued c.freeze_unfrozen.new.queue c.freeze_unfrozen.new.block)
+          says some c.if-self-gt0.true c.requires.lengths.1 c.freeze_unfrozen.ensures.states.0 c.freeze_unfrozen.ensures.queue;
       limits = refl;
     }
 
@@ -61,16 +61,16 @@ returns g c =
     let told = c.in-Ok-Batch.ensures in
     let says : Ok (Batch n) ≡ checked (upcoming sl sc) c.read-read.result false j.limits.streamed = cc in
     let none : j.queue.unfrozen ≡ 0 = omega (arith, c.if-self-gt0.false) in
-    let fits : n ≤ length table = omega (arith, checked_fits (upcoming sl sc) c.read-read.result j.limits.streamed n says, c.requires.1.0) in
+    let fits : n ≤ length table = omega (arith, checked_fits (upcoming sl sc) c.read-read.result j.limits.streamed n says, c.requires.lengths.0) in
     record {
-      does = λ bl bc bt. fetch_used s j c.args.first sl sc bl bc table bt block c.read-read.result c.requires.0.0 c.requires.1.0 c.read-read.ensures
-          n sl' sc' table' c.use-streamed.result _
+      does = λ bl bc bt. fetch_used s j c.args.first sl sc bl bc table bt block c.read-read.result c.requires.phase.0 c.requires.lengths.0 c.read-read.ensures
+          n sl' sc' table' c.use_streamed.result _
           says some none fits c.take-2.ensures.left c.take-2.ensures.memory
-          (c.use-streamed.ensures.does s (memory sl' sc' bl bc table' bt block) (streamed_of j (memory sl sc bl bc table bt block)) refl refl
+          (c.use_streamed.ensures.does s (memory sl' sc' bl bc table' bt block) (streamed_of j (memory sl sc bl bc table bt block)) refl refl
           (record {
             closing_same = sym c.take-2.ensures.closes;
-            read_same = read_is s j c.args.first sl sc bl bc table bt block c.read-read.result c.requires.0.0 c.requires.1.0 c.read-read.ensures;
+            read_same = read_is s j c.args.first sl sc bl bc table bt block c.read-read.result c.requires.phase.0 c.requires.lengths.0 c.read-read.ensures;
             last_same = refl;
           }));
-      limits = c.use-streamed.ensures.limits;
+      limits = c.use_streamed.ensures.limits;
     }

@@ -7,21 +7,21 @@ use Rattle.join.proofs.Handing.{some_due, next_handed, next_waits}
 use Rattle.join.proofs.Settling.{roomy_of}
 use Rattle.join.proofs.state.Join.hand.Goals as goal
 
-pub returns-in-default : goal.returns-in-default
-returns-in-default g c =
+pub returns-in_default : goal.returns-in_default
+returns-in_default g c =
     let j = c.args.self.now in
     let block = c.args.block.now in
     let room = roomy_of j block c.requires.1 in
-    absurd (some_due (queued j.queue block).due (omega (arith, (counts j.queue block room).3, c.requires.0)) (sym c.in-default.is ∙ c.next-due.ensures))
+    absurd (some_due (queued j.queue block).due (omega (arith, (counts j.queue block room).3, c.requires.0)) (sym c.in_default.is ∙ c.next_due.ensures))
 
-pub returns-then-is-err : goal.returns-then-is-err
-returns-then-is-err g c =
+pub returns-then-is_err : goal.returns-then-is_err
+returns-then-is_err g c =
     let j = c.args.self.now in
     let block = c.args.block.now in
     record {
       does = λ s m. next_waits s g.T.Sink.fitting g.T.Sink.after (streamed_of j m) (buffered_of j m) (queued j.queue block) (counts_of j.counts) (phase_of j.phase (holding j.buffered) (take j.buffered.held m.buffered))
           (g.T.Sink.value c.args.sink.now) c.in-Some.record (g.T.Sink.value c.take.new.self)
-          c.in-Some.ensures (sym (ap is_err c.take.ensures.answer) ∙ sym c.if-is-err.ensures.value) c.take.ensures.left;
+          c.in-Some.ensures (sym (ap is_err c.take.ensures.answer) ∙ sym c.if-is_err.ensures.value) c.take.ensures.left;
       limits = refl;
     }
 
@@ -31,7 +31,7 @@ returns g c =
     let block = c.args.block.now in
     record {
       does = λ s m. next_handed s g.T.Sink.fitting g.T.Sink.after (streamed_of j m) (buffered_of j m) (queued j.queue block) (counts_of j.counts) (phase_of j.phase (holding j.buffered) (take j.buffered.held m.buffered))
-          (g.T.Sink.value c.args.sink.now) c.in-Some.record (g.T.Sink.value c.take.new.self) (queued c.hand-next.new.queue block) c.saturating-add-self.result
-          c.in-Some.ensures (sym (ap is_err c.take.ensures.answer) ∙ sym c.if-is-err.ensures.value) c.take.ensures.left c.hand-next.ensures.queue c.saturating-add-self.ensures;
+          (g.T.Sink.value c.args.sink.now) c.in-Some.record (g.T.Sink.value c.take.new.self) (queued c.hand_next.new.queue block) c.saturating_add-self.result
+          c.in-Some.ensures (sym (ap is_err c.take.ensures.answer) ∙ sym c.if-is_err.ensures.value) c.take.ensures.left c.hand_next.ensures.queue c.saturating_add-self.ensures;
       limits = refl;
     }

@@ -11,11 +11,11 @@ pub returns-else-self : goal.returns-else-self
 returns-else-self g c =
     let j = c.args.self.now in
     let f = c.args.filter.now in
-    let q' = c.push-lone.new.queue in
-    let block' = c.push-lone.new.block in
-    let lists : is_outer j.limits.kind ≡ true = sym c.lists-streamed.ensures ∙ c.if-not-lists-streamed.false in
-    let few : length (queued q' block').unfrozen < j.limits.batch = omega (arith, (counts q' block' c.push-lone.ensures.roomy).1, c.if-self.false) in
+    let q' = c.push_lone.new.queue in
+    let block' = c.push_lone.new.block in
+    let lists : is_outer j.limits.kind ≡ true = sym c.lists_streamed.ensures ∙ c.if-not-lists_streamed.false in
+    let few : length (queued q' block').unfrozen < j.limits.batch = omega (arith, (counts q' block' c.push_lone.ensures.roomy).1, c.if-self.false) in
     record {
-      does = λ within across m. lone_waits (setting j.limits within across (asking g.F.Filter.says f) (is_some f)) (streamed_of j m) (buffered_of j m) (queued j.queue c.args.block.now) (queued q' block') (counts_of j.counts) lists c.push-lone.ensures.queue few;
+      does = λ within across m. lone_waits (setting j.limits within across (asking g.F.Filter.says f) (is_some f)) (streamed_of j m) (buffered_of j m) (queued j.queue c.args.block.now) (queued q' block') (counts_of j.counts) lists c.push_lone.ensures.queue few;
       limits = refl;
     }

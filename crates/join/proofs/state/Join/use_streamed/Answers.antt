@@ -10,7 +10,7 @@ returns-in-Some g c =
     let n = c.args.n in
     let all : n - 0 ≡ n = omega arith in
     record {
-      does = λ s m st kind is b. unsorted_stops s w j m st c.args.first n c.in-Some.place c.read-read.result (take (n - 0) table) c.streamed-side-of-side.result c.stop.result _
-          kind b c.streamed-side-of-side.ensures c.read-read.ensures (ap (λ i. take i table) all ∙ ap (take n) (sym is)) c.in-Some.ensures c.stop.ensures.says (c.stop.ensures.does m);
+      does = λ s m st kind is b. unsorted_stops s w j m st c.args.first n c.in-Some.place c.read-read.result (take (n - 0) table) c.streamed_side_of-side.result c.stop.result _
+          kind b c.streamed_side_of-side.ensures c.read-read.ensures (ap (λ i. take i table) all ∙ ap (take n) (sym is)) c.in-Some.ensures c.stop.ensures.says (c.stop.ensures.does m);
       limits = c.stop.ensures.limits;
     }

@@ -22,8 +22,8 @@ returns-then-at-self g c = record {
 pub returns-then-stop-eq0 : goal.returns-then-stop-eq0
 returns-then-stop-eq0 g c =
     let j = c.args.self.now in
-    let k = c.pair-into-stop.result.count in
-    let w : Scanned j c.args.pairs c.args.streamed.now c.args.buffered.now c.args.block.now c.pair-into-stop.new.out c.min-most.result k c.index-streamed-at.result = record {
+    let k = c.pair_into-stop.result.count in
+    let w : Scanned j c.args.pairs c.args.streamed.now c.args.buffered.now c.args.block.now c.pair_into-stop.new.out c.min-most.result k c.index-streamed-at.result = record {
       phase = c.requires.0;
       none_due = c.requires.1.0;
       streamed_length = c.requires.1.1.0;
@@ -32,27 +32,27 @@ returns-then-stop-eq0 g c =
       within = c.if-at-self.false;
       is_row = c.index-streamed-at.is;
       is_most = c.min-most.ensures;
-      count = c.pair-into-stop.ensures.count;
-      written = c.pair-into-stop.ensures.written;
+      count = c.pair_into-stop.ensures.count;
+      written = c.pair_into-stop.ensures.written;
     } in
-    let matched : holding c.mark-matched.new.self ≡ matching (holding j.buffered) = c.mark-matched.ensures in
+    let matched : holding c.mark_matched.new.self ≡ matching (holding j.buffered) = c.mark_matched.ensures in
     record {
       limits = refl;
       queue = refl;
       states = refl;
       held = ap (λ (h : Holding). h.held) matched;
-      long = scan_long j c.args.pairs c.args.streamed.now c.args.buffered.now c.args.block.now c.pair-into-stop.new.out c.min-most.result k c.index-streamed-at.result w;
+      long = scan_long j c.args.pairs c.args.streamed.now c.args.buffered.now c.args.block.now c.pair_into-stop.new.out c.min-most.result k c.index-streamed-at.result w;
       few = omega arith;
       room = omega arith;
-      none = λ none s kind size sl sc bl bc. scan_ends j c.args.pairs c.args.streamed.now c.args.buffered.now c.args.block.now c.pair-into-stop.new.out c.min-most.result k c.index-streamed-at.result w s kind size sl sc bl bc c.if-stop-eq0.true c.mark-matched.new.self matched;
+      none = λ none s kind size sl sc bl bc. scan_ends j c.args.pairs c.args.streamed.now c.args.buffered.now c.args.block.now c.pair_into-stop.new.out c.min-most.result k c.index-streamed-at.result w s kind size sl sc bl bc c.if-stop-eq0.true c.mark_matched.new.self matched;
       some = λ some. absurd (omega arith);
     }
 
 pub returns : goal.returns
 returns g c =
     let j = c.args.self.now in
-    let k = c.pair-into-stop.result.count in
-    let w : Scanned j c.args.pairs c.args.streamed.now c.args.buffered.now c.args.block.now c.pair-into-stop.new.out c.min-most.result k c.index-streamed-at.result = record {
+    let k = c.pair_into-stop.result.count in
+    let w : Scanned j c.args.pairs c.args.streamed.now c.args.buffered.now c.args.block.now c.pair_into-stop.new.out c.min-most.result k c.index-streamed-at.result = record {
       phase = c.requires.0;
       none_due = c.requires.1.0;
       streamed_length = c.requires.1.1.0;
@@ -61,8 +61,8 @@ returns g c =
       within = c.if-at-self.false;
       is_row = c.index-streamed-at.is;
       is_most = c.min-most.ensures;
-      count = c.pair-into-stop.ensures.count;
-      written = c.pair-into-stop.ensures.written;
+      count = c.pair_into-stop.ensures.count;
+      written = c.pair_into-stop.ensures.written;
     } in
     let more : 1 ≤ k = omega (arith, c.if-stop-eq0.false) in
     record {
@@ -70,11 +70,11 @@ returns g c =
       queue = refl;
       states = refl;
       held = refl;
-      long = scan_long j c.args.pairs c.args.streamed.now c.args.buffered.now c.args.block.now c.pair-into-stop.new.out c.min-most.result k c.index-streamed-at.result w;
-      few = scan_left j c.args.pairs c.args.streamed.now c.args.buffered.now c.args.block.now c.pair-into-stop.new.out c.min-most.result k c.index-streamed-at.result w;
-      room = scan_room j c.args.pairs c.args.streamed.now c.args.buffered.now c.args.block.now c.pair-into-stop.new.out c.min-most.result k c.index-streamed-at.result w;
+      long = scan_long j c.args.pairs c.args.streamed.now c.args.buffered.now c.args.block.now c.pair_into-stop.new.out c.min-most.result k c.index-streamed-at.result w;
+      few = scan_left j c.args.pairs c.args.streamed.now c.args.buffered.now c.args.block.now c.pair_into-stop.new.out c.min-most.result k c.index-streamed-at.result w;
+      room = scan_room j c.args.pairs c.args.streamed.now c.args.buffered.now c.args.block.now c.pair_into-stop.new.out c.min-most.result k c.index-streamed-at.result w;
       none = λ none. absurd (omega (arith, more, none));
       some = λ some s kind size sl sc bl bc.
-          scan_goes_on j c.args.pairs c.args.streamed.now c.args.buffered.now c.args.block.now c.pair-into-stop.new.out c.min-most.result k c.index-streamed-at.result w s kind size sl sc bl bc some
-          c.pair-into-stop.result.position.batch c.pair-into-stop.result.position.row c.pair-into-stop.ensures.left;
+          scan_goes_on j c.args.pairs c.args.streamed.now c.args.buffered.now c.args.block.now c.pair_into-stop.new.out c.min-most.result k c.index-streamed-at.result w s kind size sl sc bl bc some
+          c.pair_into-stop.result.position.batch c.pair_into-stop.result.position.row c.pair_into-stop.ensures.left;
     }
