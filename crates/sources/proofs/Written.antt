@@ -1,7 +1,7 @@
 -- What is written is read again.
 use Rattle.std.proofs.Common.{◌≡◌, ℕ, zero, suc, ◌+◌, ◌*◌, ◌/◌, ◌%◌, ◌^◌, ◌<◌, ◌≤◌, true, eqb, List, [], ◌∷◌, ◌++◌, length, take, drop, sym, refl, ap, ◌∙◌, div-lt_iff_lt-mul, pow-suc, div-add-mod', arith, w8, SFits, eq-eqb}
 use Rattle.std.specs.Int.Digits.{number_from_digits}
-use Rattle.std.specs.List.{flat_map, AllByRecursion as All}
+use Rattle.std.specs.List.{flat_map, AllByRecursion}
 use Rattle.std.proofs.lemmas.Int.Digits.{number_push}
 use Rattle.std.proofs.lemmas.List.{append-nil, append_assoc, length-append, take_at, drop_at, drop-drop}
 use Rattle.std.proofs.lemmas.Int.{to_z-of_z}
@@ -47,7 +47,7 @@ module _ {K : Type 0} (L : Layout K) (back : (key : K) → L.fits key ≡ true �
       ∙ ap (λ x. row x (commands L total 0 (drop (w + 7) after))) same
       ∙ ap (λ bs. row r (commands L total 0 bs)) rest
 
-  rows_read : (rows before : List (Row K)) (tail : List ℕ) → All (Fits L) rows
+  rows_read : (rows before : List (Row K)) (tail : List ℕ) → AllByRecursion (Fits L) rows
       → (batches_from before (commands L total 0 (flat_map (row_bytes L) rows ++ (2 ∷ tail))) ≡ (before ++ rows) ∷ batches_from [] (commands L total 0 tail))
       × (closing_of (commands L total 0 (flat_map (row_bytes L) rows ++ (2 ∷ tail))) ≡ closing_of (commands L total 0 tail))
   rows_read [] before tail f = (ap (λ rows. rows ∷ batches_from [] (commands L total 0 tail)) (sym (append-nil before)), refl)
@@ -60,7 +60,7 @@ module _ {K : Type 0} (L : Layout K) (back : (key : K) → L.fits key ≡ true �
         ap closing_of step ∙ next.1,
       )
 
-  batches_read : (batches : List (List (Row K))) → All (All (Fits L)) batches
+  batches_read : (batches : List (List (Row K))) → AllByRecursion (AllByRecursion (Fits L)) batches
       → (batches_from [] (commands L total 0 (flat_map (batch_bytes L) batches ++ (3 ∷ []))) ≡ batches)
       × (closing_of (commands L total 0 (flat_map (batch_bytes L) batches ++ (3 ∷ []))) ≡ End)
   batches_read [] f = (refl, refl)
@@ -74,7 +74,7 @@ module _ {K : Type 0} (L : Layout K) (back : (key : K) → L.fits key ≡ true �
         ap (λ bs. closing_of (commands L total 0 bs)) split ∙ first.1 ∙ others.1,
       )
 
-pub written_means : {K : Type 0} (L : Layout K) → ((key : K) → L.fits key ≡ true → ReadsBack L key) → (batches : List (List (Row K))) → All (All (Fits L)) batches
+pub written_means : {K : Type 0} (L : Layout K) → ((key : K) → L.fits key ≡ true → ReadsBack L key) → (batches : List (List (Row K))) → AllByRecursion (AllByRecursion (Fits L)) batches
     → (log_batches L (log_bytes L batches) ≡ batches) × (log_closing L (log_bytes L batches) ≡ End)
 written_means L back batches f =
     let code : eqb L.code L.code ≡ true = eq-eqb L.code L.code refl in
