@@ -1,5 +1,5 @@
 ghost use Rattle.std.specs.Prelude.{◌≡◌};
-ghost use Rattle.rows.specs.Order.{rank as rank-of};
+ghost use Rattle.rows.specs.Order.{rank as rank_of};
 
 use rows::order::KeyOrder;
 use std::cmp::Ordering;
@@ -60,7 +60,7 @@ impl fmt::Display for LawTallies {
 
 // Before, same and after rise in this sequence.
 fn rank(answer: Ordering) -> u8
-    ensures { result ≡ rank-of answer }
+    ensures { result ≡ rank_of answer }
 {
     match answer {
         Ordering::Less => 0,
