@@ -2,7 +2,7 @@
 use Rattle.std.proofs.Common.{◌≡◌, ℕ, zero, suc, ◌+◌, ◌-◌, ◌<◌, ◌≤◌, min, Bool, true, false, cond, not, ◌&&◌, leb, ◌⊎◌, List, [], ◌∷◌, ◌++◌, length, get_or, take, replicate, Some, None, Option, Ordering, Less, Equal, Greater, sym, refl, ap, ◌∙◌, subst, inl, inr, true≢false, append_assoc, append-nil, add-one, arith, length-append}
 use mathlib.Core.List.{nil≢cons}
 use mathlib.Core.Bool.{false≢true}
-use Rattle.std.specs.List.{ContainsAt as Has, AllByRecursion as All}
+use Rattle.std.specs.List.{ContainsAt as Has, AllByRecursion}
 use Rattle.std.proofs.ByRecursion.{All-weaker, All-push}
 use Rattle.std.proofs.lemmas.Bool.{and_parts, or_right, leb-true}
 use Rattle.rows.specs.Order.{Laws, rank, is_same}
@@ -232,7 +232,7 @@ module _ {X F V : Type 0} (c : Setting X V) (laws : Laws c.within c.across) (sl 
     pub unmet : Unmet (passes c) g.passed beyond
     pub held : Held (base_of p) (marks_of p) sizes first beyond g.ahead g.behind g.here
     pub range : Ranged p
-    pub own : All (Own place) g.group
+    pub own : AllByRecursion (Own place) g.group
     pub mode : Moded c.deferred c.size place g.group p
     pub owes : (f : Record → ℕ) → total f out + (worth_of f c.deferred p + total f (when c.keeps_buffered (failures (base_of p) g.behind))) ≡ total f g.gave + worth f c.deferred g.group
     pub tally : Tally c.fits c.after v₀ out turns nrows nruns handed place v
@@ -295,7 +295,7 @@ module _ {X F V : Type 0} (c : Setting X V) (laws : Laws c.within c.across) (sl 
     pub paired : List X
     pub run_is : y ∷ run ≡ paired ++ todo
     pub place_is : j ≡ first + length paired
-    pub same_run : All (λ z. c.across x z ≡ Equal) (y ∷ run)
+    pub same_run : AllByRecursion (λ z. c.across x z ≡ Equal) (y ∷ run)
     pub matched_is : meeting c.within c.across x g.ahead ≡ y ∷ run
     pub shuns : Shuns (passes c) x beyond
     pub group_is : g.group ≡ group_of (passes c) place x first paired
@@ -1078,9 +1078,9 @@ module _ {X F V : Type 0} (c : Setting X V) (laws : Laws c.within c.across) (sl 
               paired = [];
               run_is = refl;
               place_is = omega arith;
-              same_run = subst (λ t. All (λ z. c.across x z ≡ Equal) (y ∷ t)) s.0 (run_is_same c.within c.across laws x y (run ++ beyond) q);
+              same_run = subst (λ t. AllByRecursion (λ z. c.across x z ≡ Equal) (y ∷ t)) s.0 (run_is_same c.within c.across laws x y (run ++ beyond) q);
               matched_is = rw (k.ahead_is, q) (ap (λ (t : List X). y ∷ t) s.0);
-              shuns = All-weaker _ _ (λ z t. shuns_past c.within c.across (passes c) laws only_same x y z q t) beyond (subst (λ t. All (λ z. rank (c.within y z) ≡ 0) t) s.1 (past_is_after c.within c.across laws y (run ++ beyond) sorted));
+              shuns = All-weaker _ _ (λ z t. shuns_past c.within c.across (passes c) laws only_same x y z q t) beyond (subst (λ t. AllByRecursion (λ z. rank (c.within y z) ≡ 0) t) s.1 (past_is_after c.within c.across laws y (run ++ beyond) sorted));
               group_is = r.group_none;
               here_is = r.here_is;
               unmet_run = r.unmet_run;
@@ -1174,7 +1174,7 @@ module _ {X F V : Type 0} (c : Setting X V) (laws : Laws c.within c.across) (sl 
         let s : List Mark = standing (passes c) true (g.passed ++ x ∷ []) a.paired in
         let t : List Mark = standing (passes c) m g.passed todo in
         let r : List Mark = replicate (length beyond) unseen in
-        let same : c.across x z ≡ Equal = (all_back _ a.paired (z ∷ todo) (subst (All (λ w. c.across x w ≡ Equal)) a.run_is a.same_run)).0 in
+        let same : c.across x z ≡ Equal = (all_back _ a.paired (z ∷ todo) (subst (AllByRecursion (λ w. c.across x w ≡ Equal)) a.run_is a.same_run)).0 in
         let asks : c.asks x z ≡ passes c x z = asked x z same in
         let fresh' : m ≡ false → meets_streamed (passes c) g.passed z ≡ false = λ i. (all_back _ a.paired (z ∷ todo) (subst (Unmet (passes c) g.passed) a.run_is (a.unmet_run i))).0 in
         let are : marks_of p ≡ (g.behind ++ s) ++ mark_of (passes c) m g.passed z ∷ (t ++ r) = k.held.are ∙ ap (λ (w : List Mark). g.behind ++ (w ++ r)) a.here_is ∙ shape g.behind s t r _ in
@@ -1599,7 +1599,7 @@ module _ {X F V : Type 0} (c : Setting X V) (laws : Laws c.within c.across) (sl 
         once = distinct_front out own_rows.0 (distinct_perm (Permᴰ.symm (perm_from_same _ _ own_rows.1)) (table_distinct (passes c) c.keeps_streamed c.keeps_buffered (g.read_s ++ []) (g.read_b ++ [])));
         belongs = λ s' b' fs fb gs gb.
             let q = covered out (mores told) (t + 1) st bf p n v ph i s' b' fs fb (sorted_on c.within g.read_s s' k.streamed_side.sorted (subst (λ x. GoesOn c.within (last_of None x) s') rs gs)) (sorted_on c.within g.read_b b' k.buffered_side.sorted (subst (λ x. GoesOn c.within (last_of None x) b') rb gb)) in
-            subst (λ x. All (Has (joined c (x ++ s') (take (first + length (run ++ beyond)) (rows_in bl) ++ b'))) out) (sym rs) (subst (λ x. All (Has (joined c (g.read_s ++ s') (x ++ b'))) out) (sym rb) (all_have out q.0 _ (perm_from_same _ _ q.1)));
+            subst (λ x. AllByRecursion (Has (joined c (x ++ s') (take (first + length (run ++ beyond)) (rows_in bl) ++ b'))) out) (sym rs) (subst (λ x. AllByRecursion (Has (joined c (g.read_s ++ s') (x ++ b'))) out) (sym rb) (all_have out q.0 _ (perm_from_same _ _ q.1)));
         whole = λ z. shuffled_from_perm (perm_from_same _ _ (ended_facts out (mores told) (t + 1) st bf p t nr nu h v ph i (fin z)).all_out);
         turns = k.tally.turns_are;
         path =

@@ -2,7 +2,7 @@
 use Rattle.std.proofs.Common.{◌≡◌, ℕ, zero, suc, ◌+◌, ◌-◌, ◌<◌, ◌≤◌, Bool, true, false, cond, not, ltb, leb, ◌⊎◌, List, [], ◌∷◌, ◌++◌, length, take, drop, filter, sym, refl, ap, ◌∙◌, subst, inl, inr, append_assoc, append-nil, arith, length-append, length-drop, take-append-drop}
 use Rattle.std.proofs.lemmas.List.Filters.{length-filter_both}
 use Rattle.std.proofs.lemmas.List.{take-append-le, drop-append-le, length-take-le, nil_from_length}
-use Rattle.std.specs.List.{AllByRecursion as All}
+use Rattle.std.specs.List.{AllByRecursion}
 use Rattle.std.proofs.ByRecursion.{All-append, All-weaker, All-push}
 use Rattle.std.proofs.lemmas.Bool.{ne_eqb, leb-true, leb-false, lt-ltb, le-ltb}
 use Rattle.merge.specs.Table.{when}
@@ -28,19 +28,19 @@ leads (fixed r) l = false
 leads (judged i j v) l = goes_on i l
 
 abbrev pub Apart : List Entry → List Entry → Type 0
-Apart a b = All (λ e. leads e b ≡ false) a
+Apart a b = AllByRecursion (λ e. leads e b ≡ false) a
 
 pub apart_none : (a b : List Entry) → ((i : ℕ) → goes_on i b ≡ false) → Apart a b
 apart_none [] b h = tt
 apart_none (fixed r ∷ a) b h = (refl, apart_none a b h)
 apart_none (judged i j v ∷ a) b h = (h i, apart_none a b h)
 
-starts_past : (k i : ℕ) (b : List Entry) → i < k → All (From k) b → goes_on i b ≡ false
+starts_past : (k i : ℕ) (b : List Entry) → i < k → AllByRecursion (From k) b → goes_on i b ≡ false
 starts_past k i [] l h = refl
 starts_past k i (fixed r ∷ b) l h = refl
 starts_past k i (judged m j v ∷ b) l h = ne_eqb i m (λ e. omega (arith, h.0))
 
-pub apart_cut : (k : ℕ) (a b : List Entry) → All (Below k) a → All (From k) b → Apart a b
+pub apart_cut : (k : ℕ) (a b : List Entry) → AllByRecursion (Below k) a → AllByRecursion (From k) b → Apart a b
 apart_cut k [] b h g = tt
 apart_cut k (fixed r ∷ a) b h g = (refl, apart_cut k a b h.1 g)
 apart_cut k (judged i j v ∷ a) b h g = (starts_past k i b h.0 g, apart_cut k a b h.1 g)
@@ -110,8 +110,8 @@ module _ (f : Record → ℕ) where
 
 -- `group` is what the row at `place` has in the pipe so far
 pub data Mode (size place : ℕ) (group : List Entry) (noted : List ℕ) (unfrozen entries : List Entry) : Type 0 where
-  clean : (u : List Entry) (k : ℕ) → unfrozen ≡ u ++ group → k ≤ place → All (Below k) entries → All (From k) u → All (Below place) u → Mode size place group noted unfrozen entries
-  full : (a : List Entry) → noted ≡ [] → size ≤ length entries → entries ++ unfrozen ≡ a ++ group → All (Below place) a → Mode size place group noted unfrozen entries
+  clean : (u : List Entry) (k : ℕ) → unfrozen ≡ u ++ group → k ≤ place → AllByRecursion (Below k) entries → AllByRecursion (From k) u → AllByRecursion (Below place) u → Mode size place group noted unfrozen entries
+  full : (a : List Entry) → noted ≡ [] → size ≤ length entries → entries ++ unfrozen ≡ a ++ group → AllByRecursion (Below place) a → Mode size place group noted unfrozen entries
 
 abbrev pub ModeOf : Bool → ℕ → ℕ → List Entry → List ℕ → List Entry → List Entry → Type 0
 ModeOf true size place group noted unfrozen entries = Mode size place group noted unfrozen entries
@@ -126,7 +126,7 @@ Inside base n (fixed r) = Unit {0}
 Inside base n (judged i j v) = j - base < n
 
 abbrev pub Ranged : Pipe → Type 0
-Ranged (pipe base marks noted unfrozen entries due) = All (Inside base (length marks)) unfrozen
+Ranged (pipe base marks noted unfrozen entries due) = AllByRecursion (Inside base (length marks)) unfrozen
 
 -- entries of the row at `place`
 abbrev pub Own : ℕ → Entry → Type 0
@@ -140,15 +140,15 @@ from_less : (k m : ℕ) → k ≤ m → (e : Entry) → From m e → From k e
 from_less k m l (fixed r) h = tt
 from_less k m l (judged i j v) h = omega arith
 
-pub below_all : (k m : ℕ) → k ≤ m → (a : List Entry) → All (Below k) a → All (Below m) a
+pub below_all : (k m : ℕ) → k ≤ m → (a : List Entry) → AllByRecursion (Below k) a → AllByRecursion (Below m) a
 below_all k m l a h = All-weaker (Below k) (Below m) (below_more k m l) a h
 
-pub below_fixeds : (k : ℕ) (l : List Record) → All (Below k) (fixeds l)
+pub below_fixeds : (k : ℕ) (l : List Record) → AllByRecursion (Below k) (fixeds l)
 below_fixeds k [] = tt
 below_fixeds k (r ∷ l) = (tt, below_fixeds k l)
 
 -- what is in the pipe before the current group, and the group
-pub parts : {size place : ℕ} {group : List Entry} {noted : List ℕ} {unfrozen entries : List Entry} → Mode size place group noted unfrozen entries → (a : List Entry) × (entries ++ unfrozen ≡ a ++ group) × All (Below place) a
+pub parts : {size place : ℕ} {group : List Entry} {noted : List ℕ} {unfrozen entries : List Entry} → Mode size place group noted unfrozen entries → (a : List Entry) × (entries ++ unfrozen ≡ a ++ group) × AllByRecursion (Below place) a
 parts {place = place} {group = group} {entries = entries} (clean u k e l h g b) = (entries ++ u, rw e (sym (append_assoc entries u group)), All-append _ entries u (below_all k place l entries h) b)
 parts (full a n l e b) = (a, e, b)
 
@@ -156,11 +156,11 @@ none_alone : (l : List ℕ) → l ≡ [] → alones l ≡ []
 none_alone [] e = refl
 none_alone (j ∷ l) e = absurd (let z : ◌≡◌ {A = ℕ} 0 1 = cc in omega arith)
 
-module _ (size place : ℕ) (group : List Entry) (own : All (Own place) group) where
-  from_group : All (From place) group
+module _ (size place : ℕ) (group : List Entry) (own : AllByRecursion (Own place) group) where
+  from_group : AllByRecursion (From place) group
   from_group = All-weaker (Own place) (From place) (λ e h. h.0) group own
 
-  below_group : All (Below (suc place)) group
+  below_group : AllByRecursion (Below (suc place)) group
   below_group = All-weaker (Own place) (Below (suc place)) (λ e h. h.1) group own
 
   pub mode_push : (e : Entry) {noted : List ℕ} {unfrozen entries : List Entry} → Mode size place group noted unfrozen entries → Mode size place (group ++ e ∷ []) noted (unfrozen ++ e ∷ []) entries
@@ -204,7 +204,7 @@ module _ (size place : ℕ) (group : List Entry) (own : All (Own place) group) w
       full (a ++ group) n l (q ∙ sym (append-nil (a ++ group))) (All-append _ a group (below_all place (suc place) (omega arith) a b) below_group)
 
 module _ (size place : ℕ) where
-  unfrozen_below : (u unfrozen : List Entry) → unfrozen ≡ u ++ [] → All (Below place) u → All (Below place) unfrozen
+  unfrozen_below : (u unfrozen : List Entry) → unfrozen ≡ u ++ [] → AllByRecursion (Below place) u → AllByRecursion (Below place) unfrozen
   unfrozen_below u unfrozen q b = rw (q ∙ append-nil u) b
 
   pub mode_freeze : {noted : List ℕ} {unfrozen entries : List Entry} → Mode size place [] noted unfrozen entries → Mode size place [] noted [] (entries ++ unfrozen)
@@ -404,7 +404,7 @@ past_all f e j (unseen ∷ l) h = rw (le-ltb j e h) (ap (λ (n : ℕ). f j + n) 
 past_all f e j (failing ∷ l) h = past_all f e (suc j) l (omega arith)
 past_all f e j (met ∷ l) h = past_all f e (suc j) l (omega arith)
 
-all_worth : (f : Record → ℕ) (d : Bool) (size place : ℕ) (group : List Entry) → All (Own place) group → (base : ℕ) (marks : List Mark) (noted : List ℕ) (unfrozen entries : List Entry) (due : List Record) → Moded d size place group (pipe base marks noted unfrozen entries due)
+all_worth : (f : Record → ℕ) (d : Bool) (size place : ℕ) (group : List Entry) → AllByRecursion (Own place) group → (base : ℕ) (marks : List Mark) (noted : List ℕ) (unfrozen entries : List Entry) (due : List Record) → Moded d size place group (pipe base marks noted unfrozen entries due)
     → worth_of f d (freeze_all d (pipe base marks noted unfrozen entries due)) ≡ worth_of f d (pipe base marks noted unfrozen entries due)
 all_worth f true size place group own base marks noted unfrozen entries due m = omega (arith, worth_tail f true (entries ++ (fixeds (alones noted) ++ unfrozen)), worth_freeze_all size place group own f noted unfrozen entries m)
 all_worth f false size place group own base marks noted unfrozen entries due m =
@@ -431,7 +431,7 @@ length_marking base [] l = refl
 length_marking base (fixed r ∷ u) l = length_marking base u l
 length_marking base (judged i j v ∷ u) l = length_marking base u _ ∙ length_mark (j - base) v l
 
-all_mode : (d : Bool) (size place : ℕ) (group : List Entry) → All (Own place) group → (base : ℕ) (marks : List Mark) (noted : List ℕ) (unfrozen entries : List Entry) (due : List Record) → size ≤ length unfrozen → Moded d size place group (pipe base marks noted unfrozen entries due) → Moded d size place group (freeze_all d (pipe base marks noted unfrozen entries due))
+all_mode : (d : Bool) (size place : ℕ) (group : List Entry) → AllByRecursion (Own place) group → (base : ℕ) (marks : List Mark) (noted : List ℕ) (unfrozen entries : List Entry) (due : List Record) → size ≤ length unfrozen → Moded d size place group (pipe base marks noted unfrozen entries due) → Moded d size place group (freeze_all d (pipe base marks noted unfrozen entries due))
 all_mode true size place group own base marks noted unfrozen entries due l m = mode_freeze_all size place group own l m
 all_mode false size place group own base marks noted unfrozen entries due l m = m
 
@@ -439,13 +439,13 @@ all_marks : (d : Bool) (base : ℕ) (marks : List Mark) (noted : List ℕ) (unfr
 all_marks true base marks noted unfrozen entries due = (refl, refl)
 all_marks false base marks noted unfrozen entries due = (refl, refl)
 
-pub pushed : (d : Bool) (size place : ℕ) (group : List Entry) → All (Own place) group → (e : Entry) → Own place e → (p : Pipe) → Moded d size place group p → Ranged p → Inside (base_of p) (length (marks_of p)) e → Pushed d size place group e p (push d size e p)
+pub pushed : (d : Bool) (size place : ℕ) (group : List Entry) → AllByRecursion (Own place) group → (e : Entry) → Own place e → (p : Pipe) → Moded d size place group p → Ranged p → Inside (base_of p) (length (marks_of p)) e → Pushed d size place group e p (push d size e p)
 pushed d size place group own e o (pipe base marks noted unfrozen entries due) m ranged inside = go (leb size (length (unfrozen ++ e ∷ []))) refl
   where
     more : List Entry
     more = unfrozen ++ e ∷ []
 
-    own' : All (Own place) (group ++ e ∷ [])
+    own' : AllByRecursion (Own place) (group ++ e ∷ [])
     own' = All-push _ group e own o
 
     mode' : Moded d size place (group ++ e ∷ []) (pipe base marks noted (unfrozen ++ e ∷ []) entries due)
@@ -694,7 +694,7 @@ parted d size place keeps m sizes (pipe base marks noted unfrozen entries due) e
     go true h q r = out d q r mode
     go false h q r = record { behind = eb; marks = e; base = omega arith; sums = refl; worths = λ f. refl; mode = mode; range = ranged; empties = stays sizes h; fewer = omega arith; lengths = omega arith; noting = λ h. h; short = omega arith }
 
-pub moded_passed : (d : Bool) (size place : ℕ) (group : List Entry) → All (Own place) group → (p : Pipe) → Moded d size place group p → Moded d size (suc place) [] p
+pub moded_passed : (d : Bool) (size place : ℕ) (group : List Entry) → AllByRecursion (Own place) group → (p : Pipe) → Moded d size place group p → Moded d size (suc place) [] p
 moded_passed true size place group own (pipe base marks noted unfrozen entries due) m = mode_passed size place group own m
 moded_passed false size place group own (pipe base marks noted unfrozen entries due) m = m
 
@@ -704,7 +704,7 @@ mark_longer n v [] b h = absurd (omega arith)
 mark_longer zero v (m ∷ a) b h = refl
 mark_longer (suc n) v (m ∷ a) b h = ap (λ (l : List Mark). m ∷ l) (mark_longer n v a b (omega arith))
 
-pub marking_longer : (base : ℕ) (u : List Entry) (a b : List Mark) → All (Inside base (length a)) u → marking base u (a ++ b) ≡ marking base u a ++ b
+pub marking_longer : (base : ℕ) (u : List Entry) (a b : List Mark) → AllByRecursion (Inside base (length a)) u → marking base u (a ++ b) ≡ marking base u a ++ b
 marking_longer base [] a b h = refl
 marking_longer base (fixed r ∷ u) a b h = marking_longer base u a b h.1
 marking_longer base (judged i j v ∷ u) a b h = ap (marking base u) (mark_longer (j - base) v a b h.0) ∙ marking_longer base u (mark_at (j - base) v a) b (rw (length_mark (j - base) v a) h.1)
@@ -713,7 +713,7 @@ more_inside : (base n m : ℕ) → n ≤ m → (e : Entry) → Inside base n e �
 more_inside base n m l (fixed r) h = tt
 more_inside base n m l (judged i j v) h = omega arith
 
-pub more_range : (base n m : ℕ) → n ≤ m → (u : List Entry) → All (Inside base n) u → All (Inside base m) u
+pub more_range : (base n m : ℕ) → n ≤ m → (u : List Entry) → AllByRecursion (Inside base n) u → AllByRecursion (Inside base m) u
 more_range base n m l u h = All-weaker (Inside base n) (Inside base m) (more_inside base n m l) u h
 
 -- before a turn there is less than the batch size in the pipe, besides the noted rows

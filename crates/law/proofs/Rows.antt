@@ -1,6 +1,6 @@
 -- Runs, groups of pairs and marks, against the merge path.
 use Rattle.std.proofs.Common.{◌≡◌, ℕ, zero, suc, ◌+◌, ◌≤◌, Bool, true, false, cond, not, ◌&&◌, ◌||◌, eqb, ◌⊎◌, List, [], ◌∷◌, ◌++◌, length, Some, None, Option, Ordering, Less, Equal, Greater, sym, refl, ap, ◌∙◌, inl, inr, true≢false, append_assoc, append-nil, arith}
-use Rattle.std.specs.List.{AllByRecursion as All}
+use Rattle.std.specs.List.{AllByRecursion}
 use Rattle.std.proofs.ByRecursion.{All-weaker}
 use Rattle.std.proofs.lemmas.Bool.{eq-eqb}
 use Rattle.rows.specs.Order.{Laws, rank, is_same, is_after}
@@ -50,7 +50,7 @@ module _ {X : Type 0} (within across : X → X → Ordering) (laws : Laws within
       go false g = g
 
   abbrev pub Level : X → List X → Type 0
-  Level y l = All (λ z. is_same (within y z) ≡ true) l
+  Level y l = AllByRecursion (λ z. is_same (within y z) ≡ true) l
 
   -- a run ends before a row that is not of it, and at the end
   abbrev pub Stop : X → List X → Type 0
@@ -113,7 +113,7 @@ module _ {X : Type 0} (passes : X → X → Bool) where
   group_push i x j [] y = ap (λ (k : ℕ). judged i k (passes x y) ∷ []) (omega arith)
   group_push i x j (z ∷ l) y = ap (λ (m : List Entry). judged i j (passes x z) ∷ m) (group_push i x (suc j) l y ∙ ap (λ (k : ℕ). group_of i x (suc j) l ++ judged i k (passes x y) ∷ []) (omega arith))
 
-  pub own_group : (i : ℕ) (x : X) (j : ℕ) (l : List X) → All (Own i) (group_of i x j l)
+  pub own_group : (i : ℕ) (x : X) (j : ℕ) (l : List X) → AllByRecursion (Own i) (group_of i x j l)
   own_group i x j [] = tt
   own_group i x j (y ∷ l) = ((omega arith, omega arith), own_group i x (suc j) l)
 
@@ -171,13 +171,13 @@ module _ {X : Type 0} (passes : X → X → Bool) where
   standing_append m p (y ∷ a) b = ap (λ (l : List Mark). mark_of m p y ∷ l) (standing_append m p a b)
 
   abbrev pub Unmet : List X → List X → Type 0
-  Unmet p l = All (λ y. meets_streamed passes p y ≡ false) l
+  Unmet p l = AllByRecursion (λ y. meets_streamed passes p y ≡ false) l
 
   pub unmet_push : (p : List X) (x : X) (l : List X) → Unmet p l → Shuns passes x l → Unmet (p ++ x ∷ []) l
   unmet_push p x [] h s = tt
   unmet_push p x (y ∷ l) h s = (meets_push passes p x y ∙ rw (h.0, s.0), unmet_push p x l h.1 s.1)
 
-  pub unmet_fresh : (p l : List X) → All (λ x. Shuns passes x l) p → Unmet p l
+  pub unmet_fresh : (p l : List X) → AllByRecursion (λ x. Shuns passes x l) p → Unmet p l
   unmet_fresh p [] h = tt
   unmet_fresh p (y ∷ l) h = (meets_none passes p y (All-weaker _ _ (λ x k. k.0) p h), unmet_fresh p l (All-weaker _ _ (λ x k. k.1) p h))
 

@@ -1,7 +1,7 @@
 -- The law of all runs of a join, from the opened state on.
 use Rattle.std.specs.Prelude.{◌≡◌, ℕ, ◌+◌, ◌-◌, ◌≤◌, min, Bool, true, false, ◌&&◌, ◌⊎◌, List, [], ◌∷◌, ◌++◌, length, take, Some, None, Option}
 use Rattle.std.specs.declared.cmp.Ordering.{Ordering}
-use Rattle.std.specs.List.{ContainsAt as Has, AllByRecursion as All}
+use Rattle.std.specs.List.{ContainsAt as Has, AllByRecursion}
 use Rattle.std.specs.List.Sorted.{IsPermutation}
 use Rattle.rows.specs.Order.{Laws, is_same}
 use Rattle.merge.specs.Table.{table, Distinct}
@@ -140,7 +140,7 @@ module _ {X F V : Type 0} (c : Setting X V) (sl : List (List X)) (sc : Closing F
     -- whatever may follow the rows read
     pub belongs : (s' b' : List X) → Follows (streamed_over s) s' → Follows (buffered_over s) b'
         → GoesOn c.within (last_of None (take (streamed_read s) (rows_in sl))) s' → GoesOn c.within (last_of None (take (buffered_read s) (rows_in bl))) b'
-        → All (Has (joined c (take (streamed_read s) (rows_in sl) ++ s') (take (buffered_read s) (rows_in bl) ++ b'))) out
+        → AllByRecursion (Has (joined c (take (streamed_read s) (rows_in sl) ++ s') (take (buffered_read s) (rows_in bl) ++ b'))) out
     pub whole : Has told finished → IsPermutation out (joined c (rows_in sl) (rows_in bl))
     pub turns : turns_of s ≡ rows_of s + runs_of s
     -- the turns are those of the path through both logs

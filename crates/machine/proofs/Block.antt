@@ -1,6 +1,6 @@
 -- What freezing and handing over make of the block, in the plain machine.
 use Rattle.std.proofs.Common.{◌≡◌, ℕ, ◌<◌, ◌≤◌, Bool, true, false, cond, List, [], ◌++◌, map, sym, refl, ap, ◌∙◌, subst, true≢false, append-nil}
-use Rattle.std.specs.List.{AllByRecursion as All}
+use Rattle.std.specs.List.{AllByRecursion}
 use Rattle.std.proofs.ByRecursion.{All-append, All-weaker}
 use Rattle.rows.specs.declared.record.Record.{Record}
 use Rattle.merge.specs.Sides.{oriented}
@@ -23,7 +23,7 @@ module _ {K : Type 0} (c : Setting K) (batch_of : ℕ → ℕ) where
   places_of = map (place_of c.kind c.asks)
 
   abbrev AllFrozen : List Entry → Type 0
-  AllFrozen = All (Frozen c.kind c.asks batch_of)
+  AllFrozen = AllByRecursion (Frozen c.kind c.asks batch_of)
 
   abbrev pub block : List Entry → List Entry → List Entry → List Record → Queued
   block noted unfrozen frozen due = record { noted = noted; unfrozen = unfrozen; frozen = frozen; due = due }
@@ -31,7 +31,7 @@ module _ {K : Type 0} (c : Setting K) (batch_of : ℕ → ℕ) where
   noted_frozen_one : (e : Entry) → Noted c.kind c.asks e → Frozen c.kind c.asks batch_of e
   noted_frozen_one e h = subst (Frozen c.kind c.asks batch_of) (sym h) (refl, tt)
 
-  pub noted_frozen : (es : List Entry) → All (Noted c.kind c.asks) es → AllFrozen es
+  pub noted_frozen : (es : List Entry) → AllByRecursion (Noted c.kind c.asks) es → AllFrozen es
   noted_frozen es h = All-weaker _ _ noted_frozen_one es h
 
   -- entries freeze behind what is frozen
@@ -49,14 +49,14 @@ module _ {K : Type 0} (c : Setting K) (batch_of : ℕ → ℕ) where
       ∙ ap (λ (l : List Mark). put (deferred c) (entries q.unfrozen) (pipe base l (places_of q.noted) [] (entries q.frozen) (map (oriented c.kind) q.due))) (marking_is c.kind c.asks base q.unfrozen states)
 
   -- what is frozen when all freezes
-  pub all_are : (noted unfrozen : List Entry) → All (Noted c.kind c.asks) noted → entries (noted ++ judged_all c.asks unfrozen) ≡ fixeds (alones (places_of noted)) ++ entries unfrozen
+  pub all_are : (noted unfrozen : List Entry) → AllByRecursion (Noted c.kind c.asks) noted → entries (noted ++ judged_all c.asks unfrozen) ≡ fixeds (alones (places_of noted)) ++ entries unfrozen
   all_are noted unfrozen h = entries_append c.kind c.asks noted (judged_all c.asks unfrozen) ∙ ap (λ (l : List plain_entry). l ++ entries (judged_all c.asks unfrozen)) (noted_are c.kind c.asks noted h) ∙ ap (λ (l : List plain_entry). fixeds (alones (places_of noted)) ++ l) (entries_judged c.kind c.asks unfrozen)
 
-  pub all_frozen_are : (noted unfrozen : List Entry) → All (Noted c.kind c.asks) noted → All (Made c.kind c.asks batch_of) unfrozen → AllFrozen (noted ++ judged_all c.asks unfrozen)
+  pub all_frozen_are : (noted unfrozen : List Entry) → AllByRecursion (Noted c.kind c.asks) noted → AllByRecursion (Made c.kind c.asks batch_of) unfrozen → AllFrozen (noted ++ judged_all c.asks unfrozen)
   all_frozen_are noted unfrozen h k = All-append _ noted _ (noted_frozen noted h) (frozen_judged c.kind c.asks batch_of unfrozen k)
 
   -- all freezes; the unfrozen may have reached the batch size
-  pub all_frozen_is : (base : ℕ) (states : List FilterState) (noted unfrozen frozen : List Entry) (due : List Record) → All (Noted c.kind c.asks) noted → All (Made c.kind c.asks batch_of) unfrozen → (deferred c ≡ false → frozen ≡ []) → due ≡ []
+  pub all_frozen_is : (base : ℕ) (states : List FilterState) (noted unfrozen frozen : List Entry) (due : List Record) → AllByRecursion (Noted c.kind c.asks) noted → AllByRecursion (Made c.kind c.asks batch_of) unfrozen → (deferred c ≡ false → frozen ≡ []) → due ≡ []
       → pipe_of c base (marking c.kind base (judged_all c.asks unfrozen) states) (let_go (deferred c) (freeze_all c.asks (block noted unfrozen frozen due))) ≡ plain_freeze_all (deferred c) (pipe_of c base states (block noted unfrozen frozen due))
   all_frozen_is base states noted unfrozen frozen due h k z w =
       put_is (deferred c) base (marking c.kind base (judged_all c.asks unfrozen) states) [] [] frozen (noted ++ judged_all c.asks unfrozen) due (all_frozen_are noted unfrozen h k) z w
@@ -79,7 +79,7 @@ module _ {K : Type 0} (c : Setting K) (batch_of : ℕ → ℕ) where
   -- ---- the block stays whole
 
   -- after freezing
-  pub let_go_whole : (d : Bool) → deferred c ≡ d → (first : ℕ) (noted frozen es : List Entry) (due : List Record) → AllFrozen frozen → AllFrozen es → All (Noted c.kind c.asks) noted → All (λ e. place_of c.kind c.asks e < first) noted → 1 ≤ c.size
+  pub let_go_whole : (d : Bool) → deferred c ≡ d → (first : ℕ) (noted frozen es : List Entry) (due : List Record) → AllFrozen frozen → AllFrozen es → AllByRecursion (Noted c.kind c.asks) noted → AllByRecursion (λ e. place_of c.kind c.asks e < first) noted → 1 ≤ c.size
       → WholeBlock c batch_of first (let_go d (block noted [] (frozen ++ es) due))
   let_go_whole true z first noted frozen es due h k nt be s = record { made = tt; frozen = All-append _ frozen es h k; noted = nt; behind = be; short = s; at_once = λ e. absurd (true≢false (sym z ∙ e)) }
   let_go_whole false z first noted frozen es due h k nt be s = record { made = tt; frozen = tt; noted = nt; behind = be; short = s; at_once = λ e. refl }

@@ -1,6 +1,6 @@
 -- Entries of the block as entries of the plain machine: what freezing, marking, correction and handing over make of them.
 use Rattle.std.proofs.Common.{◌≡◌, ℕ, zero, suc, ◌+◌, ◌-◌, Bool, true, false, not, ◌&&◌, eqb, ◌⊎◌, List, [], ◌∷◌, ◌++◌, map, length, Some, None, Option, sym, refl, ap, ◌∙◌, subst, inl, inr, arith}
-use Rattle.std.specs.List.{AllByRecursion as All}
+use Rattle.std.specs.List.{AllByRecursion}
 use Rattle.std.proofs.lemmas.Bool.{cases_eq, eq-eqb, ne_eqb}
 use Rattle.rows.specs.declared.kind.Kind.{Kind}
 use Rattle.rows.specs.declared.kind.Kind.TheVariants.{Inner, Left, Right, Full}
@@ -104,7 +104,7 @@ module _ (kind : Kind) (asks : Reading → Reading → Bool) where
     made_judged None v r said h = (h, tt)
     made_judged (Some at) v r said h = (h, refl)
 
-    pub frozen_judged : (es : List Entry) → All Made es → All Frozen (judged_all asks es)
+    pub frozen_judged : (es : List Entry) → AllByRecursion Made es → AllByRecursion Frozen (judged_all asks es)
     frozen_judged [] h = tt
     frozen_judged (e ∷ es) h = (made_judged e.row e.verdict e.«record» (asks e.left e.right) h.0, frozen_judged es h.1)
 
@@ -133,7 +133,7 @@ module _ (kind : Kind) (asks : Reading → Reading → Bool) where
     kept_plain (Some at) (Some false) r false rest l h j e = e
 
     -- what is handed over as it freezes
-    pub released : (es : List Entry) → All Frozen es → map (oriented kind) (records (passing es)) ≡ plain (map entry_of es)
+    pub released : (es : List Entry) → AllByRecursion Frozen es → map (oriented kind) (records (passing es)) ≡ plain (map entry_of es)
     released [] h = refl
     released (e ∷ es) h = ap (map (oriented kind)) (unless_records e.verdict e (passing es)) ∙ kept_plain e.row e.verdict e.«record» (asks e.left e.right) (records (passing es)) (map entry_of es) h.0.0 h.0.1 (released es h.1)
 
@@ -164,7 +164,7 @@ module _ (kind : Kind) (asks : Reading → Reading → Bool) where
     goes_none None = refl
     goes_none (Some at) = refl
 
-    last_is : (e : Entry) (es : List Entry) → Made e → All Frozen es → last_of_row e es ≡ not (goes_row e.row (map entry_of es))
+    last_is : (e : Entry) (es : List Entry) → Made e → AllByRecursion Frozen es → last_of_row e es ≡ not (goes_row e.row (map entry_of es))
     last_is e [] h k = ap not (sym (goes_none e.row))
     last_is e (n ∷ es) h k = ap not (goes_next e.row e.verdict e.«record» n.row n.verdict n.«record» (asks n.left n.right) (map entry_of es) h k.0.0)
 
@@ -193,7 +193,7 @@ module _ (kind : Kind) (asks : Reading → Reading → Bool) where
         go true seen false false q z = absurd (let k : ◌≡◌ {A = ℕ} 0 1 = cc in omega arith)
         go false seen false false q z = absurd (let k : ◌≡◌ {A = ℕ} 0 1 = cc in omega arith)
 
-    pub corrected_is : (seen : Bool) (es : List Entry) → All Frozen es → map (oriented kind) (records (corrected kind seen es)) ≡ plain_corrected seen (map entry_of es)
+    pub corrected_is : (seen : Bool) (es : List Entry) → AllByRecursion Frozen es → map (oriented kind) (records (corrected kind seen es)) ≡ plain_corrected seen (map entry_of es)
     corrected_is seen [] h = refl
     corrected_is seen (e ∷ es) h = corrects e e.row e.verdict (asks e.left e.right) seen (last_of_row e es) (λ s. corrected kind s es) (map entry_of es) h.0.0 h.0.1 (last_is e es h.0.0 h.1) (λ s. corrected_is s es h.1)
 
@@ -252,7 +252,7 @@ module _ (kind : Kind) (asks : Reading → Reading → Bool) where
   noted_entry : (e : Entry) → Noted e → entry_of e ≡ fixed (RightAlone (place_of e))
   noted_entry e h = ap entry_of h ∙ ap fixed (oriented_buffered kind (place_of e))
 
-  pub noted_are : (es : List Entry) → All Noted es → map entry_of es ≡ fixeds (alones (map place_of es))
+  pub noted_are : (es : List Entry) → AllByRecursion Noted es → map entry_of es ≡ fixeds (alones (map place_of es))
   noted_are [] h = refl
   noted_are (e ∷ es) h = ap (λ (q : plain_entry). q ∷ map entry_of es) (noted_entry e h.0) ∙ ap (λ (q : List plain_entry). fixed (RightAlone (place_of e)) ∷ q) (noted_are es h.1)
 

@@ -2,7 +2,7 @@
 use Rattle.std.proofs.Common.{◌≡◌, ℕ, zero, suc, ◌+◌, ◌-◌, ◌<◌, ◌≤◌, Bool, true, false, cond, ◌&&◌, ltb, leb, List, [], ◌∷◌, ◌++◌, map, length, take, drop, Some, None, Option, sym, refl, ap, ◌∙◌, subst, append_assoc, add-one, arith, length-append, length-drop, length-take}
 use mathlib.Core.List.{nil≢cons}
 use lib.ListN.{length-map}
-use Rattle.std.specs.List.{AllByRecursion as All}
+use Rattle.std.specs.List.{AllByRecursion}
 use Rattle.std.proofs.ByRecursion.{All-append}
 use Rattle.std.proofs.lemmas.Bool.{leb-false, ltb-false, lt-leb, lt-ltb, le-ltb, cond_both}
 use Rattle.rows.specs.declared.kind.Kind.{Kind}
@@ -130,7 +130,7 @@ module _ {K V : Type 0} (c : Setting K) (fits : V → Record → Bool) (after : 
   -- all is frozen when the unfrozen reach the batch size
   pub follows_full : (ph : Phase K) (st : Streamed K) (bf : Buffered K) (noted unfrozen frozen : List Entry) (due : List Record) (n : Counts) (v : V) (s : PlainState)
       → Walk plain s (plain_machine.state (streamed_of st) (buffered_of bf) (plain_freeze_full (deferred c) c.size (pipe_of c bf.holding.base bf.states (block c batch_of noted unfrozen frozen due))) (counts_of n) v (phase_of c.kind (bf.holding.base + bf.holding.end) ph))
-      → due ≡ [] → All (Made c.kind c.asks batch_of) unfrozen → All (Frozen c.kind c.asks batch_of) frozen → All (Noted c.kind c.asks) noted → All (λ e. place_of c.kind c.asks e < bf.holding.base + bf.holding.start) noted → (deferred c ≡ false → frozen ≡ [])
+      → due ≡ [] → AllByRecursion (Made c.kind c.asks batch_of) unfrozen → AllByRecursion (Frozen c.kind c.asks batch_of) frozen → AllByRecursion (Noted c.kind c.asks) noted → AllByRecursion (λ e. place_of c.kind c.asks e < bf.holding.base + bf.holding.start) noted → (deferred c ≡ false → frozen ≡ [])
       → WholeStreamed batch_of st → WholeBuffered c bf → Poised batch_of st bf.holding bf.ended ph → Followed s v (freeze_full c ph st bf (block c batch_of noted unfrozen frozen due) n)
   follows_full ph st bf noted unfrozen frozen due n v s w z m f nt be o ws wb po =
       let at_pipe : Pipe → PlainState = λ p. plain_machine.state (streamed_of st) (buffered_of bf) p (counts_of n) v (phase_of c.kind (bf.holding.base + bf.holding.end) ph) in
@@ -174,7 +174,7 @@ module _ {K V : Type 0} (c : Setting K) (fits : V → Record → Bool) (after : 
       ∙ ap (λ (b : Reading). judged i j (c.asks (left_side c.kind x.reading p.1.reading) b)) (right_same c.kind x.reading p.1.reading))
       ∙ ap (λ (w : List plain_entry). judged i j (plain.asks x p.1) ∷ w) (pairs_are i at e x (suc j) l h.1)
 
-  pairs_made : (at : StreamedRow) → at.batch ≡ batch_of (at.batch + at.row) → (r : Reading) (l : List (ℕ × Row K)) → All (Made c.kind c.asks batch_of) (pairs_with c.kind at (at.batch + at.row) r l)
+  pairs_made : (at : StreamedRow) → at.batch ≡ batch_of (at.batch + at.row) → (r : Reading) (l : List (ℕ × Row K)) → AllByRecursion (Made c.kind c.asks batch_of) (pairs_with c.kind at (at.batch + at.row) r l)
   pairs_made at h r [] = tt
   pairs_made at h r (p ∷ l) = ((ap (paired c.kind (at.batch + at.row)) (sym (place_of_pair c.kind (at.batch + at.row) p.0)), h), pairs_made at h r l)
 

@@ -1,7 +1,7 @@
 -- What leaves with the batches that a run has used up: noted rows by count are noted rows by place, and no failed row is cut.
 use Rattle.std.proofs.Common.{◌≡◌, ℕ, zero, suc, ◌+◌, ◌-◌, ◌<◌, ◌≤◌, Bool, true, false, cond, not, ltb, ◌⊎◌, List, [], ◌∷◌, ◌++◌, map, length, take, drop, filter, sym, refl, ap, ◌∙◌, subst, inl, inr, append_assoc, append-nil, arith, length-append, length-drop, take-append-drop, length-take, drop-drop}
 use lib.ListN.{length-map}
-use Rattle.std.specs.List.{AllByRecursion as All}
+use Rattle.std.specs.List.{AllByRecursion}
 use Rattle.std.proofs.lemmas.List.Elements.{filter-append}
 use Rattle.std.proofs.ByRecursion.{All-append, All-weaker}
 use Rattle.std.proofs.lemmas.List.{take_at, drop_at, take_all, take-map, drop-map, map-append}
@@ -64,7 +64,7 @@ module _ {K : Type 0} (c : Setting K) (batch_of : ℕ → ℕ) where
   lone_places j zero = refl
   lone_places j (suc n) = ap (λ (k : ℕ). k ∷ map place_at (lone_rows c.kind (suc j) n)) (place_lone j) ∙ ap (λ (l : List ℕ). j ∷ l) (lone_places (suc j) n)
 
-  pub lone_noted : (j n : ℕ) → All (Noted c.kind c.asks) (lone_rows c.kind j n)
+  pub lone_noted : (j n : ℕ) → AllByRecursion (Noted c.kind c.asks) (lone_rows c.kind j n)
   lone_noted j zero = tt
   lone_noted j (suc n) = (ap (λ (k : ℕ). lone (buffered_alone c.kind k)) (sym (place_lone j)), lone_noted (suc j) n)
 
@@ -88,11 +88,11 @@ module _ {K : Type 0} (c : Setting K) (batch_of : ℕ → ℕ) where
   lone_length j zero = refl
   lone_length j (suc n) = ap suc (lone_length (suc j) n)
 
-  pub lone_below : (j n e : ℕ) → j + n ≤ e → All (λ x. place_at x < e) (lone_rows c.kind j n)
+  pub lone_below : (j n e : ℕ) → j + n ≤ e → AllByRecursion (λ x. place_at x < e) (lone_rows c.kind j n)
   lone_below j zero e h = tt
   lone_below j (suc n) e h = (omega (arith, place_lone j), lone_below (suc j) n e (omega arith))
 
-  lone_above : (j n e : ℕ) → e ≤ j → All (λ x. e ≤ place_at x) (lone_rows c.kind j n)
+  lone_above : (j n e : ℕ) → e ≤ j → AllByRecursion (λ x. e ≤ place_at x) (lone_rows c.kind j n)
   lone_above j zero e h = tt
   lone_above j (suc n) e h = (omega (arith, place_lone j), lone_above (suc j) n e (omega arith))
 
@@ -103,20 +103,20 @@ module _ {K : Type 0} (c : Setting K) (batch_of : ℕ → ℕ) where
     back : List Entry
     is : noted ≡ front ++ back
     long : length back ≡ keep
-    low : All (λ x. place_at x < e) front
-    high : All (λ x. e ≤ place_at x) back
+    low : AllByRecursion (λ x. place_at x < e) front
+    high : AllByRecursion (λ x. e ≤ place_at x) back
 
   -- The run that is passed ends m rows from the base on. If its rows are noted, they are the last noted, from row s on; those
   -- noted before stand before row s.
   abbrev pub Stand : Bool → ℕ → ℕ → ℕ → List Entry → Type 0
-  Stand true base m s noted = (old : List Entry) × (noted ≡ old ++ lone_rows c.kind (base + s) (m - s)) × All (λ x. place_at x < base + s) old
-  Stand false base m s noted = All (λ x. place_at x < base + s) noted
+  Stand true base m s noted = (old : List Entry) × (noted ≡ old ++ lone_rows c.kind (base + s) (m - s)) × AllByRecursion (λ x. place_at x < base + s) old
+  Stand false base m s noted = AllByRecursion (λ x. place_at x < base + s) noted
 
-  below_more : (a b : ℕ) → a ≤ b → (l : List Entry) → All (λ x. place_at x < a) l → All (λ x. place_at x < b) l
+  below_more : (a b : ℕ) → a ≤ b → (l : List Entry) → AllByRecursion (λ x. place_at x < a) l → AllByRecursion (λ x. place_at x < b) l
   below_more a b h l k = All-weaker (λ x. place_at x < a) (λ x. place_at x < b) (λ x lt. omega arith) l k
 
-  pub stand_below : (lone : Bool) (base m s : ℕ) (noted : List Entry) → s ≤ m → Stand lone base m s noted → All (λ x. place_at x < base + m) noted
-  stand_below true base m s noted h k = subst (All (λ x. place_at x < base + m)) (sym k.1) (All-append _ k.0 _ (below_more (base + s) (base + m) (omega arith) k.0 k.2) (lone_below (base + s) (m - s) (base + m) (omega arith)))
+  pub stand_below : (lone : Bool) (base m s : ℕ) (noted : List Entry) → s ≤ m → Stand lone base m s noted → AllByRecursion (λ x. place_at x < base + m) noted
+  stand_below true base m s noted h k = subst (AllByRecursion (λ x. place_at x < base + m)) (sym k.1) (All-append _ k.0 _ (below_more (base + s) (base + m) (omega arith) k.0 k.2) (lone_below (base + s) (m - s) (base + m) (omega arith)))
   stand_below false base m s noted h k = below_more (base + s) (base + m) (omega arith) noted k
 
   split : (lone : Bool) (base m s n : ℕ) (noted : List Entry) → s ≤ n → n ≤ m → Stand lone base m s noted → (p : Split (base + n) (cond lone (m - n) 0) noted) × Stand lone (base + n) (m - n) 0 p.back
@@ -145,25 +145,25 @@ module _ {K : Type 0} (c : Setting K) (batch_of : ℕ → ℕ) where
       less = omega arith
   split false base m s n noted h k t = (record { front = noted; back = []; is = sym (append-nil noted); long = refl; low = below_more (base + s) (base + n) (omega arith) noted t; high = tt }, tt)
 
-  kept_low : (e : ℕ) (l : List Entry) → All (λ x. place_at x < e) l → (filter (λ j. ltb j e) (map place_at l) ≡ map place_at l) × (filter (λ j. not (ltb j e)) (map place_at l) ≡ [])
+  kept_low : (e : ℕ) (l : List Entry) → AllByRecursion (λ x. place_at x < e) l → (filter (λ j. ltb j e) (map place_at l) ≡ map place_at l) × (filter (λ j. not (ltb j e)) (map place_at l) ≡ [])
   kept_low e [] h = (refl, refl)
   kept_low e (x ∷ l) h = let k = kept_low e l h.1 in (rw (lt-ltb (place_at x) e h.0) (ap (λ (z : List ℕ). place_at x ∷ z) k.0), rw (lt-ltb (place_at x) e h.0) k.1)
 
-  kept_high : (e : ℕ) (l : List Entry) → All (λ x. e ≤ place_at x) l → (filter (λ j. ltb j e) (map place_at l) ≡ []) × (filter (λ j. not (ltb j e)) (map place_at l) ≡ map place_at l)
+  kept_high : (e : ℕ) (l : List Entry) → AllByRecursion (λ x. e ≤ place_at x) l → (filter (λ j. ltb j e) (map place_at l) ≡ []) × (filter (λ j. not (ltb j e)) (map place_at l) ≡ map place_at l)
   kept_high e [] h = (refl, refl)
   kept_high e (x ∷ l) h = let k = kept_high e l h.1 in (rw (le-ltb (place_at x) e h.0) k.0, rw (le-ltb (place_at x) e h.0) (ap (λ (z : List ℕ). place_at x ∷ z) k.1))
 
-  low_total : (e : ℕ) (l : List Entry) → All (λ x. place_at x < e) l → (total (short_of e) (map place_at l) ≡ length l) × ((f : ℕ → ℕ) → total (past f e) (map place_at l) ≡ 0)
+  low_total : (e : ℕ) (l : List Entry) → AllByRecursion (λ x. place_at x < e) l → (total (short_of e) (map place_at l) ≡ length l) × ((f : ℕ → ℕ) → total (past f e) (map place_at l) ≡ 0)
   low_total e [] h = (refl, λ f. refl)
   low_total e (x ∷ l) h = let k = low_total e l h.1 in (rw (lt-ltb (place_at x) e h.0) (omega (arith, k.0)), λ f. rw (lt-ltb (place_at x) e h.0) (omega (arith, k.1 f)))
 
-  high_total : (e : ℕ) (l : List Entry) → All (λ x. e ≤ place_at x) l → (total (short_of e) (map place_at l) ≡ 0) × ((f : ℕ → ℕ) → total (past f e) (map place_at l) ≡ total f (map place_at l))
+  high_total : (e : ℕ) (l : List Entry) → AllByRecursion (λ x. e ≤ place_at x) l → (total (short_of e) (map place_at l) ≡ 0) × ((f : ℕ → ℕ) → total (past f e) (map place_at l) ≡ total f (map place_at l))
   high_total e [] h = (refl, λ f. refl)
   high_total e (x ∷ l) h = let k = high_total e l h.1 in (rw (le-ltb (place_at x) e h.0) (omega (arith, k.0)), λ f. rw (le-ltb (place_at x) e h.0) (ap (λ (z : ℕ). f (place_at x) + z) (k.1 f)))
 
   -- ---- rows whose pairs all failed
 
-  failed_frozen : (j : ℕ) (l : List FilterState) → All (Frozen c.kind c.asks batch_of) (failed c.kind j l)
+  failed_frozen : (j : ℕ) (l : List FilterState) → AllByRecursion (Frozen c.kind c.asks batch_of) (failed c.kind j l)
   failed_frozen j [] = tt
   failed_frozen j (Unvisited ∷ l) = failed_frozen (suc j) l
   failed_frozen j (AllFailed ∷ l) = ((refl, tt), failed_frozen (suc j) l)
@@ -234,7 +234,7 @@ module _ {K : Type 0} (c : Setting K) (batch_of : ℕ → ℕ) where
   fails_are true base states = failed_are c.kind c.asks base states
   fails_are false base states = refl
 
-  fails_frozen : (full : Bool) (base : ℕ) (states : List FilterState) → All (Frozen c.kind c.asks batch_of) (fails_of full base states)
+  fails_frozen : (full : Bool) (base : ℕ) (states : List FilterState) → AllByRecursion (Frozen c.kind c.asks batch_of) (fails_of full base states)
   fails_frozen true base states = failed_frozen base states
   fails_frozen false base states = tt
 
@@ -260,9 +260,9 @@ module _ {K : Type 0} (c : Setting K) (batch_of : ℕ → ℕ) where
     pub rest : List Entry
     pub told : List Record
     pub given_are : entries given ≡ fixeds told
-    pub given_frozen : All (Frozen c.kind c.asks batch_of) given
-    pub rest_noted : All (Noted c.kind c.asks) rest
-    pub rest_behind : All (λ x. place_at x < base + m) rest
+    pub given_frozen : AllByRecursion (Frozen c.kind c.asks batch_of) given
+    pub rest_noted : AllByRecursion (Noted c.kind c.asks) rest
+    pub rest_behind : AllByRecursion (λ x. place_at x < base + m) rest
     pub plainly : plain_leave (is_full c.kind) m base (map size_of l) (map mark_of states) (map place_at noted) ≡ left (base + rows_of leaves) (map size_of (drop (length leaves) l)) (map mark_of (drop (rows_of leaves) states)) (map place_at rest) told
     pub exactly : (frozen : List Entry) (due : List Record) → leave_all c lone base m leaves states (block c batch_of noted [] frozen due) ≡ block c batch_of rest [] (frozen ++ given) due
     pub few : length (drop (length leaves) l) ≤ 1
@@ -275,7 +275,7 @@ module _ {K : Type 0} (c : Setting K) (batch_of : ℕ → ℕ) where
   zero_plus base = omega arith
 
   -- nothing leaves
-  stays : (l : List BufferedBatch) (base m s : ℕ) (states : List FilterState) (noted : List Entry) (lone : Bool) → All (Noted c.kind c.asks) noted → s ≤ m → Stand lone base m s noted → length l ≤ 1 → reach l ≡ m → (m ≡ rows_of l → l ≡ [])
+  stays : (l : List BufferedBatch) (base m s : ℕ) (states : List FilterState) (noted : List Entry) (lone : Bool) → AllByRecursion (Noted c.kind c.asks) noted → s ≤ m → Stand lone base m s noted → length l ≤ 1 → reach l ≡ m → (m ≡ rows_of l → l ≡ [])
       → plain_leave (is_full c.kind) m base (map size_of l) (map mark_of states) (map place_at noted) ≡ left base (map size_of l) (map mark_of states) (map place_at noted) [] → LeftAs l [] base m states noted lone
   stays l base m s states noted lone no' h t few r em e = record {
     given = [];
@@ -294,15 +294,15 @@ module _ {K : Type 0} (c : Setting K) (batch_of : ℕ → ℕ) where
     front = refl;
   }
 
-  noted_parts : (e keep : ℕ) (noted : List Entry) → All (Noted c.kind c.asks) noted → (p : Split e keep noted) → All (Noted c.kind c.asks) p.front × All (Noted c.kind c.asks) p.back
-  noted_parts e keep noted h p = go p.front p.back (subst (All (Noted c.kind c.asks)) p.is h)
+  noted_parts : (e keep : ℕ) (noted : List Entry) → AllByRecursion (Noted c.kind c.asks) noted → (p : Split e keep noted) → AllByRecursion (Noted c.kind c.asks) p.front × AllByRecursion (Noted c.kind c.asks) p.back
+  noted_parts e keep noted h p = go p.front p.back (subst (AllByRecursion (Noted c.kind c.asks)) p.is h)
     where
-      go : (a b : List Entry) → All (Noted c.kind c.asks) (a ++ b) → All (Noted c.kind c.asks) a × All (Noted c.kind c.asks) b
+      go : (a b : List Entry) → AllByRecursion (Noted c.kind c.asks) (a ++ b) → AllByRecursion (Noted c.kind c.asks) a × AllByRecursion (Noted c.kind c.asks) b
       go [] b h = (tt, h)
       go (x ∷ a) b h = let k = go a b h.1 in ((h.0, k.0), k.1)
 
   -- one batch leaves, then the rest
-  leaves_next : (b : BufferedBatch) (l leaves : List BufferedBatch) (base m s : ℕ) (states : List FilterState) (noted : List Entry) (lone : Bool) → All (Noted c.kind c.asks) noted → s ≤ b.rows → b.rows ≤ m → b.rows ≤ length states
+  leaves_next : (b : BufferedBatch) (l leaves : List BufferedBatch) (base m s : ℕ) (states : List FilterState) (noted : List Entry) (lone : Bool) → AllByRecursion (Noted c.kind c.asks) noted → s ≤ b.rows → b.rows ≤ m → b.rows ≤ length states
       → Unpaired base states noted → (p : Split (base + b.rows) (cond lone (m - b.rows) 0) noted) → LeftAs l leaves (base + b.rows) (m - b.rows) (drop b.rows states) p.back lone → LeftAs (b ∷ l) (b ∷ leaves) base m states noted lone
   leaves_next b l leaves base m s states noted lone no' h k len u p next =
       let n = b.rows in
@@ -327,7 +327,7 @@ module _ {K : Type 0} (c : Setting K) (batch_of : ℕ → ℕ) where
             ∙ sym (fixeds_append c.kind c.asks gave next.told);
         given_frozen = All-append _ (p.front ++ fs) next.given (All-append _ p.front fs (noted_frozen c batch_of p.front parts.0) (fails_frozen (is_full c.kind) base (take n states))) next.given_frozen;
         rest_noted = next.rest_noted;
-        rest_behind = subst (λ z. All (λ x. place_at x < z) next.rest) (omega arith) next.rest_behind;
+        rest_behind = subst (λ z. AllByRecursion (λ x. place_at x < z) next.rest) (omega arith) next.rest_behind;
         plainly = plain_next fronts backs;
         exactly = λ frozen due.
             ap (leave_all c lone (base + n) (m - n) leaves (drop n states)) (leave_is (is_full c.kind) base n (cond lone (m - n) 0) states noted frozen due len p u)
@@ -371,14 +371,14 @@ module _ {K : Type 0} (c : Setting K) (batch_of : ℕ → ℕ) where
       go (inr z) = absurd (e (omega arith))
   kept_last b (d ∷ l) m f r h e = absurd (e f.0)
 
-  pub leaves : (l : List BufferedBatch) (base m s : ℕ) (states : List FilterState) (noted : List Entry) (lone : Bool) → All (Noted c.kind c.asks) noted → FullButLast l → reach l ≡ m → m ≤ rows_of l → rows_of l ≤ length states → s ≤ m → s ≤ first_rows l
+  pub leaves : (l : List BufferedBatch) (base m s : ℕ) (states : List FilterState) (noted : List Entry) (lone : Bool) → AllByRecursion (Noted c.kind c.asks) noted → FullButLast l → reach l ≡ m → m ≤ rows_of l → rows_of l ≤ length states → s ≤ m → s ≤ first_rows l
       → Stand lone base m s noted → Unpaired base states noted → LeftAs l (leaving l) base m states noted lone
   leaves [] base m s states noted lone no' f r h len sm sf t u = stays [] base m s states noted lone no' sm t (omega arith) r (λ z. refl) refl
   leaves (b ∷ l) base m s states noted lone no' f r h len sm sf t u =
       go (is_consumed b) refl (λ n base' m' states' noted' a f' r' h' len' t' u'. leaves l base' m' 0 states' noted' lone a f' r' h' len' (omega arith) (omega arith) t' u')
     where
       go : (z : Bool) → is_consumed b ≡ z
-          → ((n base' m' : ℕ) (states' : List FilterState) (noted' : List Entry) → All (Noted c.kind c.asks) noted' → FullButLast l → reach l ≡ m' → m' ≤ rows_of l → rows_of l ≤ length states' → Stand lone base' m' 0 noted' → Unpaired base' states' noted' → LeftAs l (leaving l) base' m' states' noted' lone)
+          → ((n base' m' : ℕ) (states' : List FilterState) (noted' : List Entry) → AllByRecursion (Noted c.kind c.asks) noted' → FullButLast l → reach l ≡ m' → m' ≤ rows_of l → rows_of l ≤ length states' → Stand lone base' m' 0 noted' → Unpaired base' states' noted' → LeftAs l (leaving l) base' m' states' noted' lone)
           → LeftAs (b ∷ l) (cond z (b ∷ leaving l) []) base m states noted lone
       go true e ih =
           let tail = reach_tail b l m f r (eqb-true b.end b.rows e) in

@@ -1,6 +1,6 @@
 -- A join as a state of the plain machine.
 use Rattle.std.proofs.Common.{◌≡◌, ℕ, suc, ◌+◌, ◌-◌, ◌<◌, ◌≤◌, Bool, true, false, cond, ltb, List, [], ◌∷◌, map, length, take, drop, Ok, Err}
-use Rattle.std.specs.List.{AllByRecursion as All}
+use Rattle.std.specs.List.{AllByRecursion}
 use Rattle.rows.specs.declared.kind.Kind.{Kind}
 use Rattle.rows.specs.declared.kind.Side.{Side}
 use Rattle.rows.specs.declared.kind.Side.TheVariants.{Left as on_left, Right as on_right}
@@ -139,10 +139,10 @@ pub record WholeBuffered {K : Type 0} (c : Setting K) (bf : Buffered K) : Type 0
   pub reaches : reach bf.holding.batches ≡ bf.holding.end
 
 pub record WholeBlock {K : Type 0} (c : Setting K) (batch_of : ℕ → ℕ) (first : ℕ) (q : Queued) : Type 0 where
-  pub made : All (Made c.kind c.asks batch_of) q.unfrozen
-  pub frozen : All (Frozen c.kind c.asks batch_of) q.frozen
-  pub noted : All (Noted c.kind c.asks) q.noted
-  pub behind : All (λ e. place_of c.kind c.asks e < first) q.noted
+  pub made : AllByRecursion (Made c.kind c.asks batch_of) q.unfrozen
+  pub frozen : AllByRecursion (Frozen c.kind c.asks batch_of) q.frozen
+  pub noted : AllByRecursion (Noted c.kind c.asks) q.noted
+  pub behind : AllByRecursion (λ e. place_of c.kind c.asks e < first) q.noted
   pub short : length q.unfrozen < c.size
   pub at_once : deferred c ≡ false → q.frozen ≡ []
 

@@ -3,7 +3,7 @@ use Rattle.std.proofs.Common.{◌≡◌, ℕ, zero, suc, ◌+◌, ◌-◌, ◌<�
 use mathlib.Core.List.{nil≢cons}
 use mathlib.Core.Bool.{false≢true}
 use lib.ListN.{length-map}
-use Rattle.std.specs.List.{AllByRecursion as All}
+use Rattle.std.specs.List.{AllByRecursion}
 use Rattle.std.proofs.ByRecursion.{All-append}
 use Rattle.std.proofs.lemmas.List.{take_all, map-append}
 use Rattle.std.proofs.lemmas.Bool.{lt-ltb, ltb-true, le-leb, lt-leb, eqb-true, eqb-false, cases_lt}
@@ -139,7 +139,7 @@ module _ {K V : Type 0} (c : Setting K) (fits : V → Record → Bool) (after : 
   note_is true bf q = refl
   note_is false bf q = ap (λ (l : List Entry). block c batch_of l q.unfrozen q.frozen q.due) (sym (append-nil q.noted))
 
-  now_noted : (lone : Bool) (bf : Buffered K) → All (Noted c.kind c.asks) (noted_now lone bf)
+  now_noted : (lone : Bool) (bf : Buffered K) → AllByRecursion (Noted c.kind c.asks) (noted_now lone bf)
   now_noted true bf = lone_noted c batch_of _ _
   now_noted false bf = tt
 
@@ -147,7 +147,7 @@ module _ {K V : Type 0} (c : Setting K) (fits : V → Record → Bool) (after : 
   now_places true bf = lone_places c batch_of _ _
   now_places false bf = refl
 
-  stands : (lone : Bool) (bf : Buffered K) (noted : List Entry) → All (λ x. place_at c batch_of x < bf.holding.base + bf.holding.start) noted → Stand c batch_of lone bf.holding.base bf.holding.end bf.holding.start (noted ++ noted_now lone bf)
+  stands : (lone : Bool) (bf : Buffered K) (noted : List Entry) → AllByRecursion (λ x. place_at c batch_of x < bf.holding.base + bf.holding.start) noted → Stand c batch_of lone bf.holding.base bf.holding.end bf.holding.start (noted ++ noted_now lone bf)
   stands true bf noted h = (noted, refl, h)
   stands false bf noted h = All-append _ noted [] h tt
 
@@ -212,7 +212,7 @@ module _ {K V : Type 0} (c : Setting K) (fits : V → Record → Bool) (after : 
         begun : (first_start h.batches ≡ h.start) × (h.start ≤ first_rows h.batches)
         begun = w.poised.1 lt
 
-        all_noted : All (Noted c.kind c.asks) noted_here
+        all_noted : AllByRecursion (Noted c.kind c.asks) noted_here
         all_noted = All-append _ q.noted _ w.block.noted (now_noted lone_here bf)
 
         states_long : length states_here ≡ h.held
@@ -248,7 +248,7 @@ module _ {K V : Type 0} (c : Setting K) (fits : V → Record → Bool) (after : 
             given : List Entry
             given = judged_all c.asks q.unfrozen ++ f.given
 
-            all_given : All (Frozen c.kind c.asks batch_of) given
+            all_given : AllByRecursion (Frozen c.kind c.asks batch_of) given
             all_given = All-append _ (judged_all c.asks q.unfrozen) f.given (frozen_judged c.kind c.asks batch_of q.unfrozen w.block.made) f.given_frozen
 
             block_is : leave_all c lone_here h.base h.end (d ∷ l) states_here (block c batch_of noted_here [] (q.frozen ++ judged_all c.asks q.unfrozen) q.due) ≡ block c batch_of f.rest [] (q.frozen ++ given) q.due
@@ -299,7 +299,7 @@ module _ {K V : Type 0} (c : Setting K) (fits : V → Record → Bool) (after : 
                   tiled = one_full (drop k h.batches) f.few;
                   reaches = omega (arith, f.reaches);
                 };
-                block = subst (λ x. WholeBlock c batch_of ((h.base + r) + (h.end - r)) (let_go (deferred c) x)) (sym block_is) (let_go_whole c batch_of (deferred c) refl ((h.base + r) + (h.end - r)) f.rest q.frozen given q.due w.block.frozen all_given f.rest_noted (subst (λ x. All (λ y. place_at c batch_of y < x) f.rest) (sym past_r) f.rest_behind) sized);
+                block = subst (λ x. WholeBlock c batch_of ((h.base + r) + (h.end - r)) (let_go (deferred c) x)) (sym block_is) (let_go_whole c batch_of (deferred c) refl ((h.base + r) + (h.end - r)) f.rest q.frozen given q.due w.block.frozen all_given f.rest_noted (subst (λ x. AllByRecursion (λ y. place_at c batch_of y < x) f.rest) (sym past_r) f.rest_behind) sized);
                 poised = (w.poised.0, record { none = refl; one = f.few; emptied = λ x. f.emptied (omega (arith, f.reaches, b.batches_held, b.in_held, x)); unmatched = refl; not_ended = en });
               },
             )

@@ -3,7 +3,7 @@ use Rattle.std.proofs.Common.{◌≡◌, ℕ, ◌+◌, ◌-◌, ◌≤◌, min, 
 use mathlib.Core.List.{Permᴰ}
 use mathlib.Core.Bool.{false≢true}
 use lib.ListN.{length-map}
-use Rattle.std.specs.List.{ContainsAt as Has, AllByRecursion as All}
+use Rattle.std.specs.List.{ContainsAt as Has, AllByRecursion}
 use Rattle.std.specs.List.Sorted.{IsPermutation}
 use Rattle.std.proofs.ByRecursion.{All-weaker, All-map, all-has}
 use Rattle.std.proofs.lemmas.List.{map-append, get_or-map}
@@ -328,8 +328,8 @@ module _ {K V : Type 0} (kind : Kind) (within across : K → K → Ordering) (fi
           let h₂ = subst (λ z. Has (plain_law.joined plain (streamed_of kind (lr ++ l) (rr ++ r')) z) x) (sym longer_b) h₁ in
           named across filter kind (lr ++ l) (rr ++ r') x (all-has _ (table (passes kind across filter) (is_outer kind) (is_full kind) (streamed_of kind (lr ++ l) (rr ++ r')) (buffered_of kind (lr ++ l) (rr ++ r'))) x (table_only (passes kind across filter) (is_outer kind) (is_full kind) (streamed_of kind (lr ++ l) (rr ++ r')) (buffered_of kind (lr ++ l) (rr ++ r'))) h₂)
 
-      belong : All InLonger out
-      belong = subst (All InLonger) (twice kind out) (All-map InLonger (oriented kind) (map (oriented kind) out) (All-weaker _ (λ x. InLonger (oriented kind x)) in_table (map (oriented kind) out) (law.belongs (streamed_of kind l r') (buffered_of kind l r') follows_s follows_b order_s order_b)))
+      belong : AllByRecursion InLonger out
+      belong = subst (AllByRecursion InLonger) (twice kind out) (All-map InLonger (oriented kind) (map (oriented kind) out) (All-weaker _ (λ x. InLonger (oriented kind x)) in_table (map (oriented kind) out) (law.belongs (streamed_of kind l r') (buffered_of kind l r') follows_s follows_b order_s order_b)))
 
     finished : Has told (Ok Finished) → Has (map (answer_of kind) told) plain_machine.finished
     finished h = has_map (answer_of kind) told (Ok Finished) h

@@ -1,7 +1,7 @@
 -- The law of runs: what whoever opens a join and works it by turn and report alone finds after every call.
 use Rattle.std.specs.Prelude.{◌≡◌, ℕ, ◌+◌, ◌≤◌, min, Bool, true, false, not, ◌&&◌, ◌||◌, List, [], ◌∷◌, ◌++◌, length, take, Some, None, Ok, Err, Option}
 use Rattle.std.specs.declared.cmp.Ordering.{Ordering}
-use Rattle.std.specs.List.{ContainsAt as Has, AllByRecursion as All}
+use Rattle.std.specs.List.{ContainsAt as Has, AllByRecursion}
 use Rattle.std.specs.List.Sorted.{IsPermutation}
 use Rattle.rows.specs.declared.kind.Kind.{Kind}
 use Rattle.rows.specs.declared.kind.Side.{Side}
@@ -130,7 +130,7 @@ module _ {K V : Type 0} (kind : Kind) (within across : K → K → Ordering) (fi
   -- what is found after every call
   pub record Lawful (out : List Record) (told : List Told) (s : Core K) (v : V) : Type 0 where
     pub no_record_twice : Distinct out
-    pub each_record_belongs : (l r : List (Row K)) → MayFollow told s l r → All (InTable kind across filter (left_rows s ++ l) (right_rows s ++ r)) out
+    pub each_record_belongs : (l r : List (Row K)) → MayFollow told s l r → AllByRecursion (InTable kind across filter (left_rows s ++ l) (right_rows s ++ r)) out
     pub ends_as_the_joined_table : Has told (Ok Finished) → IsPermutation out (joined kind across filter all_left all_right)
     pub turns_are_rows_and_runs_passed : (reported kind s).turns ≡ (reported kind s).rows_passed + (reported kind s).runs_passed
     pub a_call_adds_at_most_one : (l : List Record) (a : Told) (s' : Core K) (v' : V) → Turned setting fits after s v l a s' v' → (reported kind s').turns ≤ (reported kind s).turns + 1

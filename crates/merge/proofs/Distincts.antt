@@ -1,14 +1,14 @@
 -- The joined table has no record twice.
 use Rattle.std.proofs.Common.{◌≡◌, ℕ, suc, ◌<◌, ◌≤◌, Bool, true, false, not, ◌≢◌, List, [], ◌∷◌, ◌++◌, sym, refl, ap, ◌∙◌, subst, arith}
 use mathlib.Core.List.{Permᴰ}
-use Rattle.std.specs.List.{AllByRecursion as All}
+use Rattle.std.specs.List.{AllByRecursion}
 use Rattle.std.proofs.ByRecursion.{All-weaker, All-append}
 use Rattle.merge.specs.Table.{when, meets_buffered, meets_streamed, pairs_of, all_pairs, lone_streamed, lone_buffered, table, Distinct}
 use Rattle.rows.specs.declared.record.Record.{Record}
 use Rattle.rows.specs.declared.record.Record.TheVariants.{Pair, LeftAlone, RightAlone}
 
 module _ {A : Type 0} where
-  pub all_when : (P : A → Type 0) (t : Bool) (l : List A) → All P l → All P (when t l)
+  pub all_when : (P : A → Type 0) (t : Bool) (l : List A) → AllByRecursion P l → AllByRecursion P (when t l)
   all_when P true l h = h
   all_when P false l h = tt
 
@@ -16,15 +16,15 @@ module _ {A : Type 0} where
   distinct_when true l h = h
   distinct_when false l h = tt
 
-  pub distinct_append : (a b : List A) → Distinct a → Distinct b → All (λ x. All (λ y. x ≢ y) b) a → Distinct (a ++ b)
+  pub distinct_append : (a b : List A) → Distinct a → Distinct b → AllByRecursion (λ x. AllByRecursion (λ y. x ≢ y) b) a → Distinct (a ++ b)
   distinct_append [] b h k f = k
   distinct_append (x ∷ a) b h k f = (All-append _ a b h.0 f.0, distinct_append a b h.1 k f.1)
 
   -- what P holds of and what Q holds of are never the same
-  pub apart : (P Q : A → Type 0) (a b : List A) → ((x y : A) → P x → Q y → x ≢ y) → All P a → All Q b → All (λ x. All (λ y. x ≢ y) b) a
+  pub apart : (P Q : A → Type 0) (a b : List A) → ((x y : A) → P x → Q y → x ≢ y) → AllByRecursion P a → AllByRecursion Q b → AllByRecursion (λ x. AllByRecursion (λ y. x ≢ y) b) a
   apart P Q a b f h k = All-weaker P _ (λ x p. All-weaker Q _ (λ y q. f x y p q) b k) a h
 
-  pub all_front : (P : A → Type 0) (a b : List A) → All P (a ++ b) → All P a
+  pub all_front : (P : A → Type 0) (a b : List A) → AllByRecursion P (a ++ b) → AllByRecursion P a
   all_front P [] b h = tt
   all_front P (x ∷ a) b h = (h.0, all_front P a b h.1)
 
@@ -32,7 +32,7 @@ module _ {A : Type 0} where
   distinct_front [] b h = tt
   distinct_front (x ∷ a) b h = (all_front _ a b h.0, distinct_front a b h.1)
 
-  pub all_perm : (P : A → Type 0) {a b : List A} → Permᴰ a b → All P a → All P b
+  pub all_perm : (P : A → Type 0) {a b : List A} → Permᴰ a b → AllByRecursion P a → AllByRecursion P b
   all_perm P Permᴰ.nil h = tt
   all_perm P (Permᴰ.cons e d) h = (subst P e h.0, all_perm P d h.1)
   all_perm P (Permᴰ.swap e f) h = (subst P f h.1.0, (subst P e h.0, h.1.1))
@@ -67,19 +67,19 @@ abbrev Of : ℕ → ℕ → Record → Type 0
 Of i j r = (kind r ≡ 0) × (place r ≡ i) × (j ≤ second r)
 
 module _ {X : Type 0} (passes : X → X → Bool) where
-  pairs_of_are : (i : ℕ) (x : X) (j : ℕ) (b : List X) → All (Of i j) (pairs_of passes i x j b)
+  pairs_of_are : (i : ℕ) (x : X) (j : ℕ) (b : List X) → AllByRecursion (Of i j) (pairs_of passes i x j b)
   pairs_of_are i x j [] = tt
   pairs_of_are i x j (y ∷ b) = All-append (Of i j) (when (passes x y) (Pair i j ∷ [])) _ (all_when _ (passes x y) _ ((refl, refl, omega arith), tt)) (All-weaker (Of i (suc j)) (Of i j) (λ r h. (h.0, h.1, omega arith)) _ (pairs_of_are i x (suc j) b))
 
-  all_pairs_are : (i : ℕ) (s : List X) (j : ℕ) (b : List X) → All (From 0 i) (all_pairs passes i s j b)
+  all_pairs_are : (i : ℕ) (s : List X) (j : ℕ) (b : List X) → AllByRecursion (From 0 i) (all_pairs passes i s j b)
   all_pairs_are i [] j b = tt
   all_pairs_are i (x ∷ s) j b = All-append (From 0 i) (pairs_of passes i x j b) _ (All-weaker (Of i j) (From 0 i) (λ r h. (h.0, omega arith)) _ (pairs_of_are i x j b)) (All-weaker (From 0 (suc i)) (From 0 i) (λ r h. (h.0, omega arith)) _ (all_pairs_are (suc i) s j b))
 
-  lone_streamed_are : (i : ℕ) (s b : List X) → All (From 1 i) (lone_streamed passes i s b)
+  lone_streamed_are : (i : ℕ) (s b : List X) → AllByRecursion (From 1 i) (lone_streamed passes i s b)
   lone_streamed_are i [] b = tt
   lone_streamed_are i (x ∷ s) b = All-append (From 1 i) (when (not (meets_buffered passes x b)) (LeftAlone i ∷ [])) _ (all_when _ (not (meets_buffered passes x b)) _ ((refl, omega arith), tt)) (All-weaker (From 1 (suc i)) (From 1 i) (λ r h. (h.0, omega arith)) _ (lone_streamed_are (suc i) s b))
 
-  lone_buffered_are : (s : List X) (j : ℕ) (b : List X) → All (From 2 j) (lone_buffered passes s j b)
+  lone_buffered_are : (s : List X) (j : ℕ) (b : List X) → AllByRecursion (From 2 j) (lone_buffered passes s j b)
   lone_buffered_are s j [] = tt
   lone_buffered_are s j (y ∷ b) = All-append (From 2 j) (when (not (meets_streamed passes s y)) (RightAlone j ∷ [])) _ (all_when _ (not (meets_streamed passes s y)) _ ((refl, omega arith), tt)) (All-weaker (From 2 (suc j)) (From 2 j) (λ r h. (h.0, omega arith)) _ (lone_buffered_are s (suc j) b))
 

@@ -1,6 +1,6 @@
 -- What code can keep in place of all the streamed rows passed: for each buffered row left, whether one of them passes with it.
 use Rattle.std.proofs.Common.{◌≡◌, ℕ, suc, Bool, true, false, cond, not, ◌||◌, List, [], ◌∷◌, ◌++◌, length, take, drop, replicate, Ordering, Less, Equal, Greater, sym, refl, ap, ◌∙◌, arith}
-use Rattle.std.specs.List.{AllByRecursion as All}
+use Rattle.std.specs.List.{AllByRecursion}
 use Rattle.std.proofs.ByRecursion.{All-weaker, All-push}
 use Rattle.rows.specs.Order.{Laws, rank, is_after}
 use Rattle.merge.specs.Table.{when, meets_streamed, lone_buffered}
@@ -66,15 +66,15 @@ module _ {X : Type 0} (passes : X → X → Bool) where
   flags_row p x (y ∷ m) r h = rw (meets_push p x y) (ap (λ (l : List Bool). (meets_streamed passes p y || passes x y) ∷ l) (flags_row p x m r h))
 
   -- rows that all the passed ones shun have their flags down
-  pub meets_none : (p : List X) (y : X) → All (λ x. passes x y ≡ false) p → meets_streamed passes p y ≡ false
+  pub meets_none : (p : List X) (y : X) → AllByRecursion (λ x. passes x y ≡ false) p → meets_streamed passes p y ≡ false
   meets_none [] y h = refl
   meets_none (x ∷ p) y h = rw h.0 (meets_none p y h.1)
 
-  pub flags_down : (p r : List X) → All (λ x. Shuns passes x r) p → flags passes p r ≡ replicate (length r) false
+  pub flags_down : (p r : List X) → AllByRecursion (λ x. Shuns passes x r) p → flags passes p r ≡ replicate (length r) false
   flags_down p [] h = refl
   flags_down p (y ∷ r) h = rw (meets_none p y (All-weaker _ _ (λ x k. k.0) p h)) (ap (λ (l : List Bool). false ∷ l) (flags_down p r (All-weaker _ _ (λ x k. k.1) p h)))
 
-pub all_back : {A : Type 0} (P : A → Type 0) (a b : List A) → All P (a ++ b) → All P b
+pub all_back : {A : Type 0} (P : A → Type 0) (a b : List A) → AllByRecursion P (a ++ b) → AllByRecursion P b
 all_back P [] b h = h
 all_back P (x ∷ a) b h = all_back P a b h.1
 
@@ -82,7 +82,7 @@ all_back P (x ∷ a) b h = all_back P a b h.1
 module _ {X : Type 0} (within across : X → X → Ordering) (passes : X → X → Bool) (laws : Laws within across) (only_same : (x y : X) → passes x y ≡ true → across x y ≡ Equal)
     (keeps_streamed keeps_buffered ended_streamed ended_buffered : Bool) (s' b' : List X) (follows_streamed : Follows ended_streamed s') (follows_buffered : Follows ended_buffered b') where
   abbrev Fresh : State X → Type 0
-  Fresh t = All (λ x. Shuns passes x b') (passed_rows t)
+  Fresh t = AllByRecursion (λ x. Shuns passes x b') (passed_rows t)
 
   pub turn_fresh : (t : State X) → decided within across ended_streamed ended_buffered t ≡ true → Ordered within (extended t s' b') → Fresh t → Fresh (turn within across passes keeps_streamed keeps_buffered t).next
   turn_fresh (at p i [] j []) d h f = f
@@ -126,5 +126,5 @@ module _ {X : Type 0} (within across : X → X → Ordering) (passes : X → X �
       ∙ ap (lone_flags j) (sym (ap (take (length (y ∷ more_of_run within y b))) (split_flags p y b) ∙ take_at (flags passes p (y ∷ more_of_run within y b)) _ _ (length_flags passes p (y ∷ more_of_run within y b))))
 
   -- rows are read: their flags are down
-  pub flags_after_read : (p b r : List X) → All (λ x. Shuns passes x r) p → flags passes p (b ++ r) ≡ flags passes p b ++ replicate (length r) false
+  pub flags_after_read : (p b r : List X) → AllByRecursion (λ x. Shuns passes x r) p → flags passes p (b ++ r) ≡ flags passes p b ++ replicate (length r) false
   flags_after_read p b r h = flags_append passes p b r ∙ ap (λ (l : List Bool). flags passes p b ++ l) (flags_down passes p r h)

@@ -1,7 +1,7 @@
 -- The joined table has just the records that belong to it, by left and right.
 use Rattle.std.proofs.Common.{◌≡◌, true, List, Option, Ordering, Less, Equal, Greater, refl, subst}
 use mathlib.Core.List.Memᴰ
-use Rattle.std.specs.List.{ContainsAt as Has, AllByRecursion as All}
+use Rattle.std.specs.List.{ContainsAt as Has, AllByRecursion}
 use Rattle.std.proofs.ByRecursion.{All-weaker, All-map}
 use Rattle.std.proofs.lemmas.Bool.{and_parts}
 use Rattle.rows.specs.declared.kind.Kind.{Kind}
@@ -62,7 +62,7 @@ module _ {K : Type 0} (across : K → K → Ordering) (filter : Option Asks) whe
   sided Full ls rs (RightAlone j) h = h
 
   module _ (kind : Kind) (lefts rights : List (Row K)) where
-    pub joined_only : All (InTable kind across filter lefts rights) (joined kind across filter lefts rights)
+    pub joined_only : AllByRecursion (InTable kind across filter lefts rights) (joined kind across filter lefts rights)
     joined_only = All-map _ (oriented kind) _ (All-weaker _ _ (named kind lefts rights) _ (table_only (passes kind across filter) (is_outer kind) (is_full kind) (streamed_of kind lefts rights) (buffered_of kind lefts rights)))
 
     pub joined_has : (r : Record) → InTable kind across filter lefts rights r → Has (joined kind across filter lefts rights) r

@@ -3,7 +3,7 @@ use Rattle.std.proofs.Common.{◌≡◌, ℕ, zero, suc, ◌+◌, Bool, true, fa
 use mathlib.Core.List.Memᴰ
 use mathlib.Core.List.{Memᴰ}
 use mathlib.Core.Bool.{false≢true}
-use Rattle.std.specs.List.{AllByRecursion as All}
+use Rattle.std.specs.List.{AllByRecursion}
 use Rattle.std.proofs.lemmas.Bool.{or_parts, or_from, not-true}
 use Rattle.std.proofs.ByRecursion.{All-weaker, All-append}
 use Rattle.merge.specs.Table.{when, meets_buffered, meets_streamed, pairs_of, all_pairs, lone_streamed, lone_buffered, table}
@@ -15,11 +15,11 @@ shift : (k j : ℕ) → suc k + j ≡ k + suc j
 shift k j = omega arith
 
 -- what holds of all the members where a test passes
-all_if : {A : Type 0} (P : A → Type 0) (t : Bool) (a : A) → (t ≡ true → P a) → All P (when t (a ∷ []))
+all_if : {A : Type 0} (P : A → Type 0) (t : Bool) (a : A) → (t ≡ true → P a) → AllByRecursion P (when t (a ∷ []))
 all_if P true a h = (h refl, tt)
 all_if P false a h = tt
 
-all_if_kept : {A : Type 0} (P : A → Type 0) (t : Bool) (l : List A) → (t ≡ true → All P l) → All P (when t l)
+all_if_kept : {A : Type 0} (P : A → Type 0) (t : Bool) (l : List A) → (t ≡ true → AllByRecursion P l) → AllByRecursion P (when t l)
 all_if_kept P true l h = h refl
 all_if_kept P false l h = tt
 
@@ -75,7 +75,7 @@ module _ {X : Type 0} (passes : X → X → Bool) where
   abbrev PairOf : ℕ → X → ℕ → List X → Record → Type 0
   PairOf i x j b r = (k : ℕ) × (y : X) × (r ≡ Pair i (k + j)) × StandsAt b k y × (passes x y ≡ true)
 
-  pairs_of_name : (i : ℕ) (x : X) (j : ℕ) (b : List X) → All (PairOf i x j b) (pairs_of passes i x j b)
+  pairs_of_name : (i : ℕ) (x : X) (j : ℕ) (b : List X) → AllByRecursion (PairOf i x j b) (pairs_of passes i x j b)
   pairs_of_name i x j [] = tt
   pairs_of_name i x j (z ∷ b) = All-append (PairOf i x j (z ∷ b)) (when (passes x z) (Pair i j ∷ [])) _
       (all_if _ (passes x z) (Pair i j) (λ e. (0, z, rw zero-add, refl, e)))
@@ -84,7 +84,7 @@ module _ {X : Type 0} (passes : X → X → Bool) where
   abbrev PairIn : ℕ → List X → ℕ → List X → Record → Type 0
   PairIn i s j b r = (l : ℕ) × (k : ℕ) × (x y : X) × (r ≡ Pair (l + i) (k + j)) × StandsAt s l x × StandsAt b k y × (passes x y ≡ true)
 
-  all_pairs_name : (i : ℕ) (s : List X) (j : ℕ) (b : List X) → All (PairIn i s j b) (all_pairs passes i s j b)
+  all_pairs_name : (i : ℕ) (s : List X) (j : ℕ) (b : List X) → AllByRecursion (PairIn i s j b) (all_pairs passes i s j b)
   all_pairs_name i [] j b = tt
   all_pairs_name i (z ∷ s) j b = All-append (PairIn i (z ∷ s) j b) (pairs_of passes i z j b) _
       (All-weaker (PairOf i z j b) _ (λ r h. (0, h.0, z, h.1, rw zero-add h.2, refl, h.3, h.4)) _ (pairs_of_name i z j b))
@@ -93,7 +93,7 @@ module _ {X : Type 0} (passes : X → X → Bool) where
   abbrev StreamedIn : ℕ → List X → List X → Record → Type 0
   StreamedIn i s b r = (l : ℕ) × (x : X) × (r ≡ LeftAlone (l + i)) × StandsAt s l x × (meets_buffered passes x b ≡ false)
 
-  lone_streamed_name : (i : ℕ) (s b : List X) → All (StreamedIn i s b) (lone_streamed passes i s b)
+  lone_streamed_name : (i : ℕ) (s b : List X) → AllByRecursion (StreamedIn i s b) (lone_streamed passes i s b)
   lone_streamed_name i [] b = tt
   lone_streamed_name i (z ∷ s) b = All-append (StreamedIn i (z ∷ s) b) (when (not (meets_buffered passes z b)) (LeftAlone i ∷ [])) _
       (all_if _ (not (meets_buffered passes z b)) (LeftAlone i) (λ e. (0, z, rw zero-add, refl, not-true _ e)))
@@ -102,7 +102,7 @@ module _ {X : Type 0} (passes : X → X → Bool) where
   abbrev BufferedIn : List X → ℕ → List X → Record → Type 0
   BufferedIn s j b r = (l : ℕ) × (y : X) × (r ≡ RightAlone (l + j)) × StandsAt b l y × (meets_streamed passes s y ≡ false)
 
-  lone_buffered_name : (s : List X) (j : ℕ) (b : List X) → All (BufferedIn s j b) (lone_buffered passes s j b)
+  lone_buffered_name : (s : List X) (j : ℕ) (b : List X) → AllByRecursion (BufferedIn s j b) (lone_buffered passes s j b)
   lone_buffered_name s j [] = tt
   lone_buffered_name s j (z ∷ b) = All-append (BufferedIn s j (z ∷ b)) (when (not (meets_streamed passes s z)) (RightAlone j ∷ [])) _
       (all_if _ (not (meets_streamed passes s z)) (RightAlone j) (λ e. (0, z, rw zero-add, refl, not-true _ e)))
@@ -117,7 +117,7 @@ module _ {X : Type 0} (passes : X → X → Bool) where
     abbrev FitsIn : Record → Type 0
     FitsIn = Belongs passes keeps_streamed keeps_buffered s b
 
-    pub table_only : All (Belongs passes keeps_streamed keeps_buffered s b) (table passes keeps_streamed keeps_buffered s b)
+    pub table_only : AllByRecursion (Belongs passes keeps_streamed keeps_buffered s b) (table passes keeps_streamed keeps_buffered s b)
     table_only = All-append _ (all_pairs passes 0 s 0 b) _
         (All-weaker (PairIn 0 s 0 b) _ (λ r h. subst FitsIn (sym h.4) (rw (add-zero h.0, add-zero h.1) (h.2, h.3, h.5, h.6, h.7))) _ (all_pairs_name 0 s 0 b))
         (All-append _ (when keeps_streamed (lone_streamed passes 0 s b)) _

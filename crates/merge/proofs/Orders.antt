@@ -1,6 +1,6 @@
 -- What the laws of the comparisons say of sorted logs.
 use Rattle.std.proofs.Common.{◌≡◌, ℕ, zero, suc, ◌+◌, ◌≤◌, Bool, true, false, cond, List, [], ◌∷◌, Ordering, Less, Equal, Greater, refl, ap, arith}
-use Rattle.std.specs.List.{AllByRecursion as All}
+use Rattle.std.specs.List.{AllByRecursion}
 use Rattle.std.proofs.ByRecursion.{All-weaker}
 use Rattle.rows.specs.Order.{Laws, rank, turned, is_same}
 use Rattle.merge.specs.Runs.{Sorted, more_of_run, past_run}
@@ -40,43 +40,43 @@ module _ {X : Type 0} (within across : X → X → Ordering) (laws : Laws within
       go (suc n) q = omega (arith, sums a c, sums a b, laws.passes_on b c a h (omega (arith, sums a c)))
 
   -- the first row of a sorted log is after none
-  pub first_leads : (x : X) (l : List X) → Sorted within (x ∷ l) → All (λ z. rank (within x z) ≤ 1) l
+  pub first_leads : (x : X) (l : List X) → Sorted within (x ∷ l) → AllByRecursion (λ z. rank (within x z) ≤ 1) l
   first_leads x [] h = tt
   first_leads x (y ∷ l) h = (h.0, All-weaker _ _ (λ z k. laws.passes_on x y z h.0 k) l (first_leads y l h.1))
 
   -- what comes past a run is strictly after its first row
-  pub past_is_after : (y : X) (b : List X) → Sorted within (y ∷ b) → All (λ z. rank (within y z) ≡ 0) (past_run within y b)
+  pub past_is_after : (y : X) (b : List X) → Sorted within (y ∷ b) → AllByRecursion (λ z. rank (within y z) ≡ 0) (past_run within y b)
   past_is_after y [] h = tt
   past_is_after y (z ∷ b) h = go (is_same (within y z)) refl (past_is_after z b h.1)
     where
-      go : (t : Bool) → is_same (within y z) ≡ t → All (λ w. rank (within z w) ≡ 0) (past_run within z b) → All (λ w. rank (within y w) ≡ 0) (cond t (past_run within z b) (z ∷ b))
+      go : (t : Bool) → is_same (within y z) ≡ t → AllByRecursion (λ w. rank (within z w) ≡ 0) (past_run within z b) → AllByRecursion (λ w. rank (within y w) ≡ 0) (cond t (past_run within z b) (z ∷ b))
       go true e r = All-weaker _ _ (λ w k. before_left y z w h.0 k) (past_run within z b) r
       go false e r = let q = not_same_rank (within y z) e h.0 in (q, All-weaker _ _ (λ w k. before_right y z w q k) b (first_leads z b h.1))
 
   -- the rows of a run are not after its first row
-  pub run_is_level : (y : X) (b : List X) → All (λ z. rank (within z y) ≤ 1) (more_of_run within y b)
+  pub run_is_level : (y : X) (b : List X) → AllByRecursion (λ z. rank (within z y) ≤ 1) (more_of_run within y b)
   run_is_level y [] = tt
   run_is_level y (z ∷ b) = go (is_same (within y z)) refl (run_is_level z b)
     where
-      go : (t : Bool) → is_same (within y z) ≡ t → All (λ w. rank (within w z) ≤ 1) (more_of_run within z b) → All (λ w. rank (within w y) ≤ 1) (cond t (z ∷ more_of_run within z b) [])
+      go : (t : Bool) → is_same (within y z) ≡ t → AllByRecursion (λ w. rank (within w z) ≤ 1) (more_of_run within z b) → AllByRecursion (λ w. rank (within w y) ≤ 1) (cond t (z ∷ more_of_run within z b) [])
       go true e r =
           let q : rank (within z y) ≤ 1 = omega (arith, sums y z, same_rank (within y z) e) in
           (q, All-weaker _ _ (λ w k. laws.passes_on w z y k q) (more_of_run within z b) r)
       go false e r = tt
 
   -- nor is its first row after them
-  pub run_is_level' : (y : X) (b : List X) → All (λ z. rank (within y z) ≤ 1) (more_of_run within y b)
+  pub run_is_level' : (y : X) (b : List X) → AllByRecursion (λ z. rank (within y z) ≤ 1) (more_of_run within y b)
   run_is_level' y [] = tt
   run_is_level' y (z ∷ b) = go (is_same (within y z)) refl (run_is_level' z b)
     where
-      go : (t : Bool) → is_same (within y z) ≡ t → All (λ w. rank (within z w) ≤ 1) (more_of_run within z b) → All (λ w. rank (within y w) ≤ 1) (cond t (z ∷ more_of_run within z b) [])
+      go : (t : Bool) → is_same (within y z) ≡ t → AllByRecursion (λ w. rank (within z w) ≤ 1) (more_of_run within z b) → AllByRecursion (λ w. rank (within y w) ≤ 1) (cond t (z ∷ more_of_run within z b) [])
       go true e r =
           let q : rank (within y z) ≤ 1 = omega (arith, same_rank (within y z) e) in
           (q, All-weaker _ _ (λ w k. laws.passes_on y z w q k) (more_of_run within z b) r)
       go false e r = tt
 
   -- what is the same across as a run's first row is the same as each of its rows
-  pub run_is_same : (x y : X) (b : List X) → across x y ≡ Equal → All (λ z. across x z ≡ Equal) (y ∷ more_of_run within y b)
+  pub run_is_same : (x y : X) (b : List X) → across x y ≡ Equal → AllByRecursion (λ z. across x z ≡ Equal) (y ∷ more_of_run within y b)
   run_is_same x y b e = (
     e,
     All-weaker _ _ (λ z h. middle (across x z) (omega (arith, h, ap rank e))) (more_of_run within y b)
@@ -89,7 +89,7 @@ module _ {X : Type 0} (within across : X → X → Ordering) (laws : Laws within
       middle Equal h = refl
       middle Greater h = absurd (omega arith)
 
-      all_both : (P Q : X → Type 0) (l : List X) → All P l → All Q l → All (λ z. P z × Q z) l
+      all_both : (P Q : X → Type 0) (l : List X) → AllByRecursion P l → AllByRecursion Q l → AllByRecursion (λ z. P z × Q z) l
       all_both P Q [] h k = tt
       all_both P Q (z ∷ l) h k = ((h.0, k.0), all_both P Q l h.1 k.1)
 

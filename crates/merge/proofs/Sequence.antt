@@ -1,7 +1,7 @@
 -- Where lone buffered rows are not listed, the path contributes by rising streamed place and, for one streamed row, by rising
 -- buffered place.
 use Rattle.std.proofs.Common.{◌≡◌, ℕ, zero, suc, ◌≤◌, Bool, true, false, cond, not, List, [], ◌∷◌, ◌++◌, Ordering, refl, inl, inr, arith}
-use Rattle.std.specs.List.{AllByRecursion as All}
+use Rattle.std.specs.List.{AllByRecursion}
 use Rattle.std.proofs.ByRecursion.{All-weaker, All-append}
 use Rattle.std.proofs.lemmas.Bool.{or_parts}
 use Rattle.rows.specs.declared.record.Record.{Record}
@@ -44,12 +44,12 @@ before_later i (RightAlone j) (Pair k l) h f = h
 before_later i (RightAlone j) (LeftAlone k) h f = h
 before_later i (RightAlone j) (RightAlone l) h f = h
 
-sequence_append : (a b : List Record) → InSequence a → InSequence b → All (λ r. All (Before r) b) a → InSequence (a ++ b)
+sequence_append : (a b : List Record) → InSequence a → InSequence b → AllByRecursion (λ r. AllByRecursion (Before r) b) a → InSequence (a ++ b)
 sequence_append [] b h k f = k
 sequence_append (r ∷ a) b h k f = (All-append _ a b h.0 f.0, sequence_append a b h.1 k f.1)
 
 -- what a part of the path contributes, of which every record has the streamed place i, and what comes after it
-sequence_later : (i : ℕ) (a b : List Record) → InSequence a → All (AtPlace i) a → InSequence b → All (FromPlace (suc i)) b → InSequence (a ++ b)
+sequence_later : (i : ℕ) (a b : List Record) → InSequence a → AllByRecursion (AtPlace i) a → InSequence b → AllByRecursion (FromPlace (suc i)) b → InSequence (a ++ b)
 sequence_later i a b h k g f = sequence_append a b h g (All-weaker _ _ (λ r p. All-weaker _ _ (λ q w. before_later i r q p w) b f) a k)
 
 module _ {X : Type 0} (passes : X → X → Bool) where
@@ -74,11 +74,11 @@ module _ {X : Type 0} (passes : X → X → Bool) where
   pair_before i j (LeftAlone i') h = absurd h
   pair_before i j (RightAlone j') h = h
 
-  pairs_from : (i : ℕ) (x : X) (j : ℕ) (b : List X) → All (PairFrom i j) (pairs_of passes i x j b)
+  pairs_from : (i : ℕ) (x : X) (j : ℕ) (b : List X) → AllByRecursion (PairFrom i j) (pairs_of passes i x j b)
   pairs_from i x j [] = tt
   pairs_from i x j (y ∷ b) = go (passes x y) (All-weaker _ _ (pair_later i j) _ (pairs_from i x (suc j) b))
     where
-      go : (t : Bool) → All (PairFrom i j) (pairs_of passes i x (suc j) b) → All (PairFrom i j) (when t (Pair i j ∷ []) ++ pairs_of passes i x (suc j) b)
+      go : (t : Bool) → AllByRecursion (PairFrom i j) (pairs_of passes i x (suc j) b) → AllByRecursion (PairFrom i j) (when t (Pair i j ∷ []) ++ pairs_of passes i x (suc j) b)
       go true h = ((refl, omega arith), h)
       go false h = h
 
@@ -97,7 +97,7 @@ module _ {X : Type 0} (passes : X → X → Bool) where
 
   -- a passed row's pairs, or the row alone
   abbrev OfRow : ℕ → List Record → Type 0
-  OfRow i l = InSequence l × All (AtPlace i) l
+  OfRow i l = InSequence l × AllByRecursion (AtPlace i) l
 
   row_in_sequence : (keeps_streamed : Bool) (i : ℕ) (x : X) (j : ℕ) (b : List X)
       → OfRow i (pairs_of passes i x j b ++ when keeps_streamed (when (not (meets_buffered passes x b)) (LeftAlone i ∷ [])))
@@ -113,7 +113,7 @@ module _ {X : Type 0} (passes : X → X → Bool) where
 
 module _ {X : Type 0} (within across : X → X → Ordering) (passes : X → X → Bool) (keeps_streamed : Bool) where
   abbrev Later : ℕ → List Record → Type 0
-  Later i l = InSequence l × All (FromPlace i) l
+  Later i l = InSequence l × AllByRecursion (FromPlace i) l
 
   abbrev place_of : State X → ℕ
   place_of (at p i s j b) = i

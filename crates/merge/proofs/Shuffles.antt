@@ -2,7 +2,7 @@
 use Rattle.std.proofs.Common.{suc, List, [], ◌∷◌, ◌++◌, sym, subst, arith}
 use mathlib.Core.List.Permᴰ
 use mathlib.Core.List.{Memᴰ, Permᴰ}
-use Rattle.std.specs.List.{ContainsAt as Has, AllByRecursion as All}
+use Rattle.std.specs.List.{ContainsAt as Has, AllByRecursion}
 use Rattle.std.specs.List.Sorted.{IsPermutation}
 use Rattle.std.proofs.ByRecursion.{all_has_itself}
 use Rattle.std.proofs.lemmas.List.Sorted.{IsPermutation-refl, IsPermutation-cons, IsPermutation-swap, IsPermutation-trans}
@@ -15,7 +15,7 @@ shuffled_from_perm (Permᴰ.swap {a = x} {b = y} {a' = y'} {b' = x'} {l = l} e f
 shuffled_from_perm (Permᴰ.trans {l₁ = a} {l₂ = b} {l₃ = c} d d') = IsPermutation-trans a b c (shuffled_from_perm d) (shuffled_from_perm d')
 
 -- a member of what is part of a permutation
-pub all_have : {A : Type 0} (a b c : List A) → Permᴰ (a ++ b) c → All (Has c) a
+pub all_have : {A : Type 0} (a b c : List A) → Permᴰ (a ++ b) c → AllByRecursion (Has c) a
 all_have a b c d = all_front _ a b (all_perm (Has c) (Permᴰ.symm d) (all_has_itself c))
 
 pub has_from_mem : {A : Type 0} {a : A} {l : List A} → Memᴰ a l → Has l a

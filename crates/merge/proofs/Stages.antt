@@ -3,7 +3,7 @@ use Rattle.std.proofs.Common.{◌≡◌, ℕ, ◌+◌, Bool, true, false, List, 
 use mathlib.Core.List.Permᴰ
 use mathlib.Core.List.{Permᴰ}
 use mathlib.Core.Bool.{false≢true}
-use Rattle.std.specs.List.{AllByRecursion as All}
+use Rattle.std.specs.List.{AllByRecursion}
 use Rattle.std.proofs.ByRecursion.{All-weaker}
 use Rattle.rows.specs.Order.{Laws}
 use Rattle.merge.specs.Table.{table}
@@ -87,7 +87,7 @@ module _ {X : Type 0} (within across : X → X → Ordering) (passes : X → X �
 
   -- a streamed row passed shuns the buffered rows that have yet to be read
   abbrev pub FreshAt : Stage X → Type 0
-  FreshAt (stage s b es eb out w n t) = (s' b' : List X) → Follows es s' → Follows eb b' → Sorted within (s ++ s') → Sorted within (b ++ b') → All (λ x. Shuns passes x b') (passed_rows t)
+  FreshAt (stage s b es eb out w n t) = (s' b' : List X) → Follows es s' → Follows eb b' → Sorted within (s ++ s') → Sorted within (b ++ b') → AllByRecursion (λ x. Shuns passes x b') (passed_rows t)
 
   same_passed : (t : State X) (s' b' : List X) → passed_rows (extended t s' b') ≡ passed_rows t
   same_passed (at p i s j b) s' b' = refl

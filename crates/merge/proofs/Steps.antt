@@ -3,7 +3,7 @@ use Rattle.std.proofs.Common.{◌≡◌, ℕ, zero, suc, ◌+◌, ◌≤◌, Boo
 use mathlib.Core.List.{nil≢cons, head-eq_of_cons-eq}
 use mathlib.Core.List.Permᴰ
 use mathlib.Core.List.{Permᴰ}
-use Rattle.std.specs.List.{AllByRecursion as All}
+use Rattle.std.specs.List.{AllByRecursion}
 use Rattle.std.proofs.ByRecursion.{All-weaker}
 use Rattle.rows.specs.Order.{Laws, rank, is_same, is_after}
 use Rattle.merge.specs.Table.{when, meets_buffered, meets_streamed, pairs_of, all_pairs, lone_streamed, lone_buffered, table_from}
@@ -20,7 +20,7 @@ shift j n = omega arith
 module _ {X : Type 0} (passes : X → X → Bool) where
   -- a streamed row that passes with no row of l
   abbrev pub Shuns : X → List X → Type 0
-  Shuns x l = All (λ y. passes x y ≡ false) l
+  Shuns x l = AllByRecursion (λ y. passes x y ≡ false) l
 
   pairs_shunned : (i : ℕ) (x : X) (j : ℕ) (l : List X) → Shuns x l → pairs_of passes i x j l ≡ []
   pairs_shunned i x j [] h = refl
@@ -49,11 +49,11 @@ module _ {X : Type 0} (passes : X → X → Bool) where
   meets_back x (y ∷ l) r h = rw h.0 (meets_back x l r h.1)
 
   -- the same for streamed rows s each of which shuns l
-  all_pairs_back : (i : ℕ) (s : List X) (j : ℕ) (l r : List X) → All (λ x. Shuns x l) s → all_pairs passes i s j (l ++ r) ≡ all_pairs passes i s (j + length l) r
+  all_pairs_back : (i : ℕ) (s : List X) (j : ℕ) (l r : List X) → AllByRecursion (λ x. Shuns x l) s → all_pairs passes i s j (l ++ r) ≡ all_pairs passes i s (j + length l) r
   all_pairs_back i [] j l r h = refl
   all_pairs_back i (x ∷ s) j l r h = rw (pairs_back i x j l r h.0, all_pairs_back (suc i) s j l r h.1)
 
-  lone_streamed_back : (i : ℕ) (s : List X) (l r : List X) → All (λ x. Shuns x l) s → lone_streamed passes i s (l ++ r) ≡ lone_streamed passes i s r
+  lone_streamed_back : (i : ℕ) (s : List X) (l r : List X) → AllByRecursion (λ x. Shuns x l) s → lone_streamed passes i s (l ++ r) ≡ lone_streamed passes i s r
   lone_streamed_back i [] l r h = refl
   lone_streamed_back i (x ∷ s) l r h = rw (meets_back x l r h.0, lone_streamed_back (suc i) s l r h.1)
 
@@ -62,12 +62,12 @@ module _ {X : Type 0} (passes : X → X → Bool) where
   lone_buffered_append s j (y ∷ l) r = rw (lone_buffered_append s (suc j) l r, shift j (length l)) (sym (append_assoc (when (not (meets_streamed passes s y)) (RightAlone j ∷ [])) _ _))
 
   -- streamed rows that shun y change nothing for it
-  meets_streamed_front : (p s : List X) (y : X) → All (λ x. passes x y ≡ false) s → meets_streamed passes (p ++ s) y ≡ meets_streamed passes p y
+  meets_streamed_front : (p s : List X) (y : X) → AllByRecursion (λ x. passes x y ≡ false) s → meets_streamed passes (p ++ s) y ≡ meets_streamed passes p y
   meets_streamed_front [] [] y h = refl
   meets_streamed_front [] (x ∷ s) y h = rw h.0 (meets_streamed_front [] s y h.1)
   meets_streamed_front (x ∷ p) s y h = ap (λ (k : Bool). passes x y || k) (meets_streamed_front p s y h)
 
-  lone_buffered_front : (p s : List X) (j : ℕ) (l : List X) → All (λ x. Shuns x l) s → lone_buffered passes (p ++ s) j l ≡ lone_buffered passes p j l
+  lone_buffered_front : (p s : List X) (j : ℕ) (l : List X) → AllByRecursion (λ x. Shuns x l) s → lone_buffered passes (p ++ s) j l ≡ lone_buffered passes p j l
   lone_buffered_front p s j [] h = refl
   lone_buffered_front p s j (y ∷ l) h = rw (meets_streamed_front p s y (All-weaker _ _ (λ x k. k.0) s h), lone_buffered_front p s (suc j) l (All-weaker _ _ (λ x k. k.1) s h))
 
@@ -79,7 +79,7 @@ module _ {X : Type 0} (passes : X → X → Bool) where
         rw (e, e', append_assoc p (x ∷ []) s, when_append keeps_streamed (when (not (meets_buffered passes x m)) (LeftAlone i ∷ [])) (lone_streamed passes (suc i) s b))
         (row_block (pairs_of passes i x j m) _ (all_pairs passes (suc i) s j b) _ _)
 
-    run_step : (p : List X) (i : ℕ) (s : List X) (j : ℕ) (l r : List X) → All (λ x. Shuns x l) s
+    run_step : (p : List X) (i : ℕ) (s : List X) (j : ℕ) (l r : List X) → AllByRecursion (λ x. Shuns x l) s
         → Permᴰ (when keeps_buffered (lone_buffered passes p j l) ++ table_from passes keeps_streamed keeps_buffered p i s (j + length l) r)
         (table_from passes keeps_streamed keeps_buffered p i s j (l ++ r))
     run_step p i s j l r h =
@@ -139,7 +139,7 @@ module _ {X : Type 0} (within across : X → X → Ordering) (passes : X → X �
       go Greater e a = absurd (true≢false a)
 
   -- every streamed row left shuns the first run, if the first one is after it
-  run_shunned : (x : X) (s : List X) (y : X) (b : List X) → Sorted within (x ∷ s) → rank (across x y) ≡ 2 → All (λ x. Shuns passes x (y ∷ more_of_run within y b)) (x ∷ s)
+  run_shunned : (x : X) (s : List X) (y : X) (b : List X) → Sorted within (x ∷ s) → rank (across x y) ≡ 2 → AllByRecursion (λ x. Shuns passes x (y ∷ more_of_run within y b)) (x ∷ s)
   run_shunned x s y b h e = (each x e, All-weaker _ _ (λ z q. each z (omega (arith, laws.rises_streamed x z y q, top (across z y)))) s (first_leads within across laws x s h))
     where
       top : (o : Ordering) → rank o ≤ 2
@@ -163,7 +163,7 @@ module _ {X : Type 0} (within across : X → X → Ordering) (passes : X → X �
           ordered = (h.1, k);
         }
 
-    run_turn : (p : List X) (i : ℕ) (s : List X) (j : ℕ) (y : X) (b : List X) → Sorted within s → Sorted within (y ∷ b) → All (λ x. Shuns passes x (y ∷ more_of_run within y b)) s
+    run_turn : (p : List X) (i : ℕ) (s : List X) (j : ℕ) (y : X) (b : List X) → Sorted within s → Sorted within (y ∷ b) → AllByRecursion (λ x. Shuns passes x (y ∷ more_of_run within y b)) s
         → Kept within passes keeps_streamed keeps_buffered (at p i s j (y ∷ b)) (pass_run within across passes keeps_streamed keeps_buffered p i s j y b)
     run_turn p i s j y b h k f =
         let r = run_step passes keeps_streamed keeps_buffered p i s j (y ∷ more_of_run within y b) (past_run within y b) f in

@@ -1,7 +1,7 @@
 -- What is proved of the merge path through a left and a right log: it yields the joined table.
 use Rattle.std.specs.Prelude.{◌≡◌, ℕ, ◌+◌, ◌≤◌, Bool, false, List, [], ◌++◌, map, length, Option}
 use Rattle.std.specs.declared.cmp.Ordering.{Ordering}
-use Rattle.std.specs.List.{ContainsAt as Has, AllByRecursion as All}
+use Rattle.std.specs.List.{ContainsAt as Has, AllByRecursion}
 use Rattle.std.specs.List.Sorted.{IsPermutation}
 use Rattle.rows.specs.declared.kind.Kind.{Kind}
 use Rattle.rows.specs.declared.record.Record.{Record}
@@ -45,7 +45,7 @@ module _ {K : Type 0} (within across : K → K → Ordering) (filter : Option As
 
   -- A record is in the joined table exactly when it belongs there, and the table has no record twice.
   pub record TableIsWhatBelongs (lefts rights : List (Row K)) : Type 0 where
-    pub only : All (InTable kind across filter lefts rights) (joined kind across filter lefts rights)
+    pub only : AllByRecursion (InTable kind across filter lefts rights) (joined kind across filter lefts rights)
     pub every : (r : Record) → InTable kind across filter lefts rights r → Has (joined kind across filter lefts rights) r
     pub once : Distinct (joined kind across filter lefts rights)
 
@@ -60,7 +60,7 @@ module _ {K : Type 0} (within across : K → K → Ordering) (filter : Option As
 
   -- what n turns contribute is part of the joined table of logs that go on with more rows
   pub record PartOfTheTable (n : ℕ) (lefts rights more_lefts more_rights : List (Row K)) : Type 0 where
-    pub belong : All (Has (joined kind across filter (lefts ++ more_lefts) (rights ++ more_rights))) (contributed n lefts rights)
+    pub belong : AllByRecursion (Has (joined kind across filter (lefts ++ more_lefts) (rights ++ more_rights))) (contributed n lefts rights)
     pub once : Distinct (contributed n lefts rights)
     -- what is still to come
     pub rest : List Record
@@ -86,7 +86,7 @@ module _ {K : Type 0} (within across : K → K → Ordering) (filter : Option As
   abbrev pub RecordsComeInSequence : ℕ → (lefts rights : List (Row K)) → Type 0
   RecordsComeInSequence n lefts rights = is_full kind ≡ false → InSequence (side_records n lefts rights)
 
--- All of it, for one order of keys, filter or none, and kind.
+-- AllByRecursion of it, for one order of keys, filter or none, and kind.
 pub record MergingYieldsTheJoinedTable {K : Type 0} (within across : K → K → Ordering) (filter : Option Asks) (kind : Kind) : Type 0 where
   pub a_record_is_in_the_table_exactly_when_it_belongs : (lefts rights : List (Row K)) → TableIsWhatBelongs within across filter kind lefts rights
   pub the_path_contributes_the_joined_table : (lefts rights : List (Row K)) → PathContributesTheTable within across filter kind lefts rights

@@ -1,6 +1,6 @@
 -- Records, each naming the streamed row first, by rising streamed place and, for one streamed row, by rising buffered place.
 use Rattle.std.specs.Prelude.{◌≡◌, ◌<◌, ◌⊎◌, List, [], ◌∷◌}
-use Rattle.std.specs.List.{AllByRecursion as All}
+use Rattle.std.specs.List.{AllByRecursion}
 use Rattle.rows.specs.declared.record.Record.{Record}
 use Rattle.rows.specs.declared.record.Record.TheVariants.{Pair, LeftAlone, RightAlone}
 
@@ -18,4 +18,4 @@ Before (RightAlone j) (RightAlone j') = ⊥
 
 abbrev pub InSequence : List Record → Type 0
 InSequence [] = Unit {0}
-InSequence (r ∷ l) = All (Before r) l × InSequence l
+InSequence (r ∷ l) = AllByRecursion (Before r) l × InSequence l

@@ -2,7 +2,7 @@
 -- A record names the streamed row's place first: `Pair i j` is a streamed and a buffered row, `LeftAlone i` a streamed row
 -- without a partner, `RightAlone j` a buffered one. (specs/Joined turns the records of a right join round.)
 use Rattle.std.specs.Prelude.{ℕ, suc, Bool, true, false, not, ◌||◌, ◌≢◌, List, [], ◌∷◌, ◌++◌}
-use Rattle.std.specs.List.{AllByRecursion as All}
+use Rattle.std.specs.List.{AllByRecursion}
 use Rattle.rows.specs.declared.record.Record.{Record}
 use Rattle.rows.specs.declared.record.Record.TheVariants.{Pair, LeftAlone, RightAlone}
 
@@ -14,7 +14,7 @@ when false l = []
 -- no member stands twice
 abbrev pub Distinct : {A : Type 0} → List A → Type 0
 Distinct [] = Unit {0}
-Distinct (a ∷ l) = All (λ c. a ≢ c) l × Distinct l
+Distinct (a ∷ l) = AllByRecursion (λ c. a ≢ c) l × Distinct l
 
 -- `passes x y` says whether the streamed row x and the buffered row y pass as a pair.
 module _ {X : Type 0} (passes : X → X → Bool) where
