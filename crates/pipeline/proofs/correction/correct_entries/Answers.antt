@@ -9,8 +9,8 @@ use Rattle.pipeline.proofs.correction.correct_entries.Goals as goal
 use Rattle.pipeline.proofs.correction.correct_entries.Goals.{in-Kept, in-Alone, in-Dropped, then-i-entries, else-i-entries}
 
 -- the test is whether the entry is last of its row
-last-is : (c : goal.After-yes_seen_after-seen) → c.if-i-entries.last ≡ last_of_row (get_or c.loop-i.entries c.loop-i.i blank) (drop (c.loop-i.i + 1) c.args.entries.now)
-last-is c =
+last_is : (c : goal.After-yes_seen_after-seen) → c.if-i-entries.last ≡ last_of_row (get_or c.loop-i.entries c.loop-i.i blank) (drop (c.loop-i.i + 1) c.args.entries.now)
+last_is c =
     let xs = c.args.entries.now in
     let i = c.loop-i.i in
     let e = get_or c.loop-i.entries i blank in
@@ -33,9 +33,9 @@ loop-i-preserved c =
     let here : i < length xs = omega arith in
     let turn = corrected_one c.args.kind c.loop-i.seen c.if-i-entries.last seen e (drop (i + 1) xs) in
     elim c.match-fate_of.branch [
-      | in-Kept w ↦ rw (w.entries-is, w.left-is) (compacting_write c.loop-i.invariant seen blank e here (turn Kept (last-is c) w.in-Kept.ensures c.yes_seen_after-seen.ensures))
-      | in-Alone w ↦ rw (w.entries-is, w.left-is, w.alone_entry.ensures) (compacting_write c.loop-i.invariant seen blank _ here (turn Alone (last-is c) w.in-Alone.ensures c.yes_seen_after-seen.ensures))
-      | in-Dropped w ↦ rw (w.entries-is, w.left-is) (compacting_drop c.loop-i.invariant seen blank here (turn Dropped (last-is c) w.in-Dropped.ensures c.yes_seen_after-seen.ensures))
+      | in-Kept w ↦ rw (w.entries-is, w.left-is) (compacting_write c.loop-i.invariant seen blank e here (turn Kept (last_is c) w.in-Kept.ensures c.yes_seen_after-seen.ensures))
+      | in-Alone w ↦ rw (w.entries-is, w.left-is, w.alone_entry.ensures) (compacting_write c.loop-i.invariant seen blank _ here (turn Alone (last_is c) w.in-Alone.ensures c.yes_seen_after-seen.ensures))
+      | in-Dropped w ↦ rw (w.entries-is, w.left-is) (compacting_drop c.loop-i.invariant seen blank here (turn Dropped (last_is c) w.in-Dropped.ensures c.yes_seen_after-seen.ensures))
     ]
 
 pub returns : goal.returns
