@@ -26,13 +26,13 @@ module _ {K : Type 0} (c : Setting K) (first : Bool) (st : Streamed K) (bf : Buf
   abbrev next : List (List (Row K)) → Closing → Result Next LoadFault
   next l e = checked (upcoming l e) (streamed_read st) false c.streamed_table
 
-  abbrev Fetched : List (List (Row K)) → Closing → Outcome K
-  Fetched l e = fetch_from c first l e st bf q n
+  abbrev fetched : List (List (Row K)) → Closing → Outcome K
+  fetched l e = fetch_from c first l e st bf q n
 
   abbrev failing : LoadFault → Outcome K
   failing f = stops c (on_side f (streamed_side c.kind) (streamed_read st)) st bf q n
 
-  pub fetch_fails : (l : List (List (Row K))) (e : Closing) (f : LoadFault) → next l e ≡ Err f → Fetched l e ≡ failing f
+  pub fetch_fails : (l : List (List (Row K))) (e : Closing) (f : LoadFault) → next l e ≡ Err f → fetched l e ≡ failing f
   fetch_fails [] ended f h = absurd (ok_not_err h)
   fetch_fails [] (faulted x) f h = let z : Source x ≡ f = cc in ap failing z
   fetch_fails ([] ∷ l) e f h = absurd (ok_not_err h)
@@ -43,7 +43,7 @@ module _ {K : Type 0} (c : Setting K) (first : Bool) (st : Streamed K) (bf : Buf
       go true false h = let z : TableFull ≡ f = cc in ap failing z
       go false b h = let z : TooManyRows ≡ f = cc in ap failing z
 
-  pub fetch_ends : (l : List (List (Row K))) (e : Closing) → next l e ≡ Ok End → Fetched l e ≡ going (core (at_end c st) bf q n (after_fetch c first))
+  pub fetch_ends : (l : List (List (Row K))) (e : Closing) → next l e ≡ Ok End → fetched l e ≡ going (core (at_end c st) bf q n (after_fetch c first))
   fetch_ends [] ended h = refl
   fetch_ends [] (faulted x) h = absurd (ok_not_err (sym h))
   fetch_ends ([] ∷ l) e h = absurd (let z : ◌≡◌ {A = ℕ} 0 1 = cc in omega arith)
@@ -56,7 +56,7 @@ module _ {K : Type 0} (c : Setting K) (first : Bool) (st : Streamed K) (bf : Buf
 
   -- an empty batch is taken and passed over: the memory stays
   pub fetch_skips : (l : List (List (Row K))) (e : Closing) (m : List (Row K)) → next l e ≡ Ok (Batch 0)
-      → (Fetched l e ≡ going (core (skipped c (take_of l e m).left st) bf q n (fetching first))) × ((take_of l e m).memory ≡ m)
+      → (fetched l e ≡ going (core (skipped c (take_of l e m).left st) bf q n (fetching first))) × ((take_of l e m).memory ≡ m)
   fetch_skips [] ended m h = absurd (let z : ◌≡◌ {A = ℕ} 0 1 = cc in omega arith)
   fetch_skips [] (faulted x) m h = absurd (ok_not_err (sym h))
   fetch_skips ([] ∷ l) e m h =
@@ -71,7 +71,7 @@ module _ {K : Type 0} (c : Setting K) (first : Bool) (st : Streamed K) (bf : Buf
 
   -- a batch that has rows: the unfrozen freeze before it is taken
   pub fetch_freezes : (l : List (List (Row K))) (e : Closing) (k : ℕ) → next l e ≡ Ok (Batch (suc k)) → 1 ≤ length q.unfrozen
-      → Fetched l e ≡ going (core st (marked_by c.kind c.asks q bf) (let_go (deferred c) (freeze c.asks q)) n (fetching first))
+      → fetched l e ≡ going (core st (marked_by c.kind c.asks q bf) (let_go (deferred c) (freeze c.asks q)) n (fetching first))
   fetch_freezes [] ended k h u = absurd (let z : ◌≡◌ {A = ℕ} 0 1 = cc in omega arith)
   fetch_freezes [] (faulted x) k h u = absurd (ok_not_err (sym h))
   fetch_freezes ([] ∷ l) e k h u = absurd (let z : 0 ≡ suc k = cc in omega arith)
@@ -92,7 +92,7 @@ module _ {K : Type 0} (c : Setting K) (first : Bool) (st : Streamed K) (bf : Buf
 
   -- with nothing unfrozen it is taken, and checked
   pub fetch_takes : (l : List (List (Row K))) (e : Closing) (k : ℕ) (m : List (Row K)) → next l e ≡ Ok (Batch (suc k)) → q.unfrozen ≡ [] → suc k ≤ length m
-      → Fetched l e ≡ fetch_checked c (disorder c.within st.last (take (suc k) (take_of l e m).memory) (streamed_read st)) first (take (suc k) (take_of l e m).memory) (take_of l e m).left st bf q n
+      → fetched l e ≡ fetch_checked c (disorder c.within st.last (take (suc k) (take_of l e m).memory) (streamed_read st)) first (take (suc k) (take_of l e m).memory) (take_of l e m).left st bf q n
   fetch_takes [] ended k m h u s = absurd (let z : ◌≡◌ {A = ℕ} 0 1 = cc in omega arith)
   fetch_takes [] (faulted x) k m h u s = absurd (ok_not_err (sym h))
   fetch_takes ([] ∷ l) e k m h u s = absurd (let z : 0 ≡ suc k = cc in omega arith)
@@ -119,8 +119,8 @@ module _ {K : Type 0} (c : Setting K) (over : Outcome K) (ph : Phase K) (st : St
   abbrev next_b : List (List (Row K)) → Closing → Result Next LoadFault
   next_b l e = checked (upcoming l e) (buffered_read bf) full space
 
-  abbrev Loaded : List (List (Row K)) → Closing → Outcome K
-  Loaded l e = load_from c over ph l e st bf q n
+  abbrev loaded : List (List (Row K)) → Closing → Outcome K
+  loaded l e = load_from c over ph l e st bf q n
 
   abbrev failing_b : LoadFault → Outcome K
   failing_b f = stops c (on_side f (buffered_side c.kind) (buffered_read bf)) st bf q n
@@ -134,12 +134,12 @@ module _ {K : Type 0} (c : Setting K) (over : Outcome K) (ph : Phase K) (st : St
   abbrev asked : (places full space : Bool) → ℕ → Result Next LoadFault
   asked places full space k = cond places (cond full (Err TooManyBatches) (cond space (Ok (Batch k)) (Err TableFull))) (Err TooManyRows)
 
-  loads : (x : Row K) (r : List (Row K)) (l : List (List (Row K))) (e : Closing) → Loaded ((x ∷ r) ∷ l) e ≡ chosen (leb (buffered_read bf + suc (length r)) most_rows) (not full) (leb (suc (length r)) space) (x ∷ r) l
+  loads : (x : Row K) (r : List (Row K)) (l : List (List (Row K))) (e : Closing) → loaded ((x ∷ r) ∷ l) e ≡ chosen (leb (buffered_read bf + suc (length r)) most_rows) (not full) (leb (suc (length r)) space) (x ∷ r) l
   loads x r l e =
       ap (λ (t : Bool). chosen (leb (buffered_read bf + suc (length r)) most_rows) t (leb (bf.holding.held + suc (length r)) c.buffered_table) (x ∷ r) l) is_full
       ∙ ap (λ (t : Bool). chosen (leb (buffered_read bf + suc (length r)) most_rows) (not full) t (x ∷ r) l) (is_space (suc (length r)))
 
-  pub load_fails : (l : List (List (Row K))) (e : Closing) (f : LoadFault) → next_b l e ≡ Err f → Loaded l e ≡ failing_b f
+  pub load_fails : (l : List (List (Row K))) (e : Closing) (f : LoadFault) → next_b l e ≡ Err f → loaded l e ≡ failing_b f
   load_fails [] ended f h = absurd (ok_not_err h)
   load_fails [] (faulted x) f h = let z : Source x ≡ f = cc in ap failing_b z
   load_fails ([] ∷ l) e f h = absurd (ok_not_err h)
@@ -151,7 +151,7 @@ module _ {K : Type 0} (c : Setting K) (over : Outcome K) (ph : Phase K) (st : St
       go true true s h = let z : TooManyBatches ≡ f = cc in ap failing_b z
       go false b s h = let z : TooManyRows ≡ f = cc in ap failing_b z
 
-  pub load_ends : (l : List (List (Row K))) (e : Closing) → next_b l e ≡ Ok End → Loaded l e ≡ over
+  pub load_ends : (l : List (List (Row K))) (e : Closing) → next_b l e ≡ Ok End → loaded l e ≡ over
   load_ends [] ended h = refl
   load_ends [] (faulted x) h = absurd (ok_not_err (sym h))
   load_ends ([] ∷ l) e h = absurd (let z : ◌≡◌ {A = ℕ} 0 1 = cc in omega arith)
@@ -164,7 +164,7 @@ module _ {K : Type 0} (c : Setting K) (over : Outcome K) (ph : Phase K) (st : St
       go false b s h = ok_not_err (sym h)
 
   pub load_skips : (l : List (List (Row K))) (e : Closing) (m : List (Row K)) → next_b l e ≡ Ok (Batch 0)
-      → (Loaded l e ≡ going (core st (passed_over c (take_of l e m).left bf) q n ph)) × ((take_of l e m).memory ≡ m)
+      → (loaded l e ≡ going (core st (passed_over c (take_of l e m).left bf) q n ph)) × ((take_of l e m).memory ≡ m)
   load_skips [] ended m h = absurd (let z : ◌≡◌ {A = ℕ} 0 1 = cc in omega arith)
   load_skips [] (faulted x) m h = absurd (ok_not_err (sym h))
   load_skips ([] ∷ l) e m h =
@@ -179,7 +179,7 @@ module _ {K : Type 0} (c : Setting K) (over : Outcome K) (ph : Phase K) (st : St
       go false b s h = ok_not_err (sym h)
 
   pub load_takes : (l : List (List (Row K))) (e : Closing) (k : ℕ) (m : List (Row K)) → next_b l e ≡ Ok (Batch (suc k)) → suc k ≤ length m
-      → Loaded l e ≡ after_b (take (suc k) (take_of l e m).memory) (take_of l e m).left
+      → loaded l e ≡ after_b (take (suc k) (take_of l e m).memory) (take_of l e m).left
   load_takes [] ended k m h s = absurd (let z : ◌≡◌ {A = ℕ} 0 1 = cc in omega arith)
   load_takes [] (faulted x) k m h s = absurd (ok_not_err (sym h))
   load_takes ([] ∷ l) e k m h s = absurd (let z : 0 ≡ suc k = cc in omega arith)

@@ -60,10 +60,10 @@ module _ {X : Type 0} where
   -- The first c of the last n, turned round, come in behind the first f; the others stay at the end: all are copied behind
   -- the first f and turned round, the others are turned round once more and copied back.
   module _ (b : List X) (f n c : ℕ) (fits : f + n ≤ length b) (fewer : c ≤ n) where
-    abbrev N : List X
-    N = reverse (drop (length b - n) b)
+    abbrev turned_tail : List X
+    turned_tail = reverse (drop (length b - n) b)
 
-    long_n : length N ≡ n
+    long_n : length turned_tail ≡ n
     long_n = length-reverse (drop (length b - n) b) ∙ omega (arith, length-drop (length b - n) b)
 
     pub brought_oldest : (b₁ b₂ b₃ b₄ ys zs : List X) (m k k' j : ℕ) → m ≡ n → k ≡ n → k' ≡ n - c → j ≡ n - c
@@ -71,30 +71,30 @@ module _ {X : Type 0} where
         → ys ≡ reverse (take k (drop f b₁)) → b₂ ≡ put_mid f k b₁ ys
         → zs ≡ reverse (take k' (drop (f + c) b₂)) → b₃ ≡ put_mid (f + c) k' b₂ zs
         → b₄ ≡ paste b₃ (length b - (n - c)) (drop (f + c) b₃) j
-        → (take (f + c) b₄ ≡ take f b ++ take c N) × (drop (length b - (n - c)) b₄ ≡ reverse (drop c N))
+        → (take (f + c) b₄ ≡ take f b ++ take c turned_tail) × (drop (length b - (n - c)) b₄ ≡ reverse (drop c turned_tail))
     brought_oldest b₁ b₂ b₃ b₄ ys zs m k k' j em ek ek' ej first turn second again third fourth =
         let A = take f b in
         let G = drop (f + n) b in
-        let S = reverse (drop c N) in
+        let S = reverse (drop c turned_tail) in
         let at = length b - (n - c) in
         let long_a : length A ≡ f = length-take-le f b (omega arith) in
         let long_r : length (drop (length b - n) b) ≡ k = omega (arith, length-drop (length b - n) b) in
-        let long_s : length S ≡ n - c = length-reverse (drop c N) ∙ length-drop c N ∙ ap (λ t. t - c) long_n in
+        let long_s : length S ≡ n - c = length-reverse (drop c turned_tail) ∙ length-drop c turned_tail ∙ ap (λ t. t - c) long_n in
         let one : b₁ ≡ A ++ (drop (length b - n) b ++ G) = first ∙ copied b f n m fits em in
-        let two : b₂ ≡ (A ++ take c N) ++ (drop c N ++ G) =
-        second ∙ turned A (drop (length b - n) b) G b₁ ys f k one long_a long_r turn ∙ ap (λ l. A ++ (l ++ G)) (sym (take-append-drop c N))
-        ∙ ap (λ l. A ++ l) (append_assoc (take c N) (drop c N) G) ∙ sym (append_assoc A (take c N) (drop c N ++ G)) in
-        let long_front : length (A ++ take c N) ≡ f + c = length-append A (take c N) ∙ omega (arith, long_a, length-take-le c N (omega (arith, long_n))) in
-        let long_rest : length (drop c N) ≡ k' = length-drop c N ∙ omega (arith, long_n) in
-        let three : b₃ ≡ (A ++ take c N) ++ (S ++ G) = third ∙ turned (A ++ take c N) (drop c N) G b₂ zs (f + c) k' two long_front long_rest again in
-        let long₃ : length b₃ ≡ length b = ap length three ∙ length-append (A ++ take c N) (S ++ G) ∙ omega (arith, long_front, length-append S G, long_s, length-drop (f + n) b) in
+        let two : b₂ ≡ (A ++ take c turned_tail) ++ (drop c turned_tail ++ G) =
+        second ∙ turned A (drop (length b - n) b) G b₁ ys f k one long_a long_r turn ∙ ap (λ l. A ++ (l ++ G)) (sym (take-append-drop c turned_tail))
+        ∙ ap (λ l. A ++ l) (append_assoc (take c turned_tail) (drop c turned_tail) G) ∙ sym (append_assoc A (take c turned_tail) (drop c turned_tail ++ G)) in
+        let long_front : length (A ++ take c turned_tail) ≡ f + c = length-append A (take c turned_tail) ∙ omega (arith, long_a, length-take-le c turned_tail (omega (arith, long_n))) in
+        let long_rest : length (drop c turned_tail) ≡ k' = length-drop c turned_tail ∙ omega (arith, long_n) in
+        let three : b₃ ≡ (A ++ take c turned_tail) ++ (S ++ G) = third ∙ turned (A ++ take c turned_tail) (drop c turned_tail) G b₂ zs (f + c) k' two long_front long_rest again in
+        let long₃ : length b₃ ≡ length b = ap length three ∙ length-append (A ++ take c turned_tail) (S ++ G) ∙ omega (arith, long_front, length-append S G, long_s, length-drop (f + n) b) in
         let moved : take j (drop (f + c) b₃) ≡ S =
-        ap (λ l. take j (drop (f + c) l)) three ∙ ap (take j) (drop_at (A ++ take c N) (S ++ G) (f + c) long_front) ∙ take_at S G j (long_s ∙ sym ej) in
+        ap (λ l. take j (drop (f + c) l)) three ∙ ap (take j) (drop_at (A ++ take c turned_tail) (S ++ G) (f + c) long_front) ∙ take_at S G j (long_s ∙ sym ej) in
         let four : b₄ ≡ take at b₃ ++ S =
         fourth ∙ ap (λ l. (take at b₃ ++ l) ++ drop (at + j) b₃) moved ∙ ap (λ l. (take at b₃ ++ S) ++ l) (drop_all (at + j) b₃ (omega arith)) ∙ append-nil (take at b₃ ++ S) in
         let long_at : length (take at b₃) ≡ at = length-take-le at b₃ (omega arith) in
         let before : f + c ≤ length (take at b₃) = omega arith in (
           ap (take (f + c)) four ∙ take-append-le (f + c) (take at b₃) S before ∙ take-take (f + c) at b₃ (omega arith)
-              ∙ ap (take (f + c)) three ∙ take_at (A ++ take c N) (S ++ G) (f + c) long_front,
+              ∙ ap (take (f + c)) three ∙ take_at (A ++ take c turned_tail) (S ++ G) (f + c) long_front,
           ap (drop at) four ∙ drop_at (take at b₃) S at long_at,
         )

@@ -206,46 +206,46 @@ module _ (q : Queue) (block block' : List Entry) (none : q.due ≡ 0) (fits : q.
   abbrev brought : Queue
   brought = record { next = q.next; due = q.due; frozen = q.frozen + q.noted; unfrozen = q.unfrozen; noted = 0 }
 
-  abbrev A : List Entry
-  A = take q.frozen block
+  abbrev frozen_part : List Entry
+  frozen_part = take q.frozen block
 
-  abbrev N : List Entry
-  N = reverse (drop (length block - q.noted) block)
+  abbrev noted_part : List Entry
+  noted_part = reverse (drop (length block - q.noted) block)
 
-  abbrev U : List Entry
-  U = take q.unfrozen (drop q.frozen block)
+  abbrev unfrozen_part : List Entry
+  unfrozen_part = take q.unfrozen (drop q.frozen block)
 
-  abbrev G : List Entry
-  G = drop (q.frozen + q.unfrozen + q.noted) block
+  abbrev rest_part : List Entry
+  rest_part = drop (q.frozen + q.unfrozen + q.noted) block
 
-  long_a : length A ≡ q.frozen
+  long_a : length frozen_part ≡ q.frozen
   long_a = length-take-le q.frozen block (omega arith)
 
-  long_n : length N ≡ q.noted
+  long_n : length noted_part ≡ q.noted
   long_n = length-reverse (drop (length block - q.noted) block) ∙ omega (arith, length-drop (length block - q.noted) block)
 
-  long_u : length U ≡ q.unfrozen
+  long_u : length unfrozen_part ≡ q.unfrozen
   long_u = length-take-le q.unfrozen (drop q.frozen block) (omega (arith, length-drop q.frozen block))
 
-  long_an : length (A ++ N) ≡ q.frozen + q.noted
-  long_an = length-append A N ∙ omega (arith, long_a, long_n)
+  long_an : length (frozen_part ++ noted_part) ≡ q.frozen + q.noted
+  long_an = length-append frozen_part noted_part ∙ omega (arith, long_a, long_n)
 
-  split : block' ≡ (A ++ N) ++ (U ++ G)
-  split = is ∙ sym (append_assoc A N (U ++ G))
+  split : block' ≡ (frozen_part ++ noted_part) ++ (unfrozen_part ++ rest_part)
+  split = is ∙ sym (append_assoc frozen_part noted_part (unfrozen_part ++ rest_part))
 
   pub brought_long : length block' ≡ length block
-  brought_long = ap length split ∙ length-append (A ++ N) (U ++ G) ∙ omega (arith, long_an, length-append U G, long_u, length-drop (q.frozen + q.unfrozen + q.noted) block)
+  brought_long = ap length split ∙ length-append (frozen_part ++ noted_part) (unfrozen_part ++ rest_part) ∙ omega (arith, long_an, length-append unfrozen_part rest_part, long_u, length-drop (q.frozen + q.unfrozen + q.noted) block)
 
-  pub brought_unfrozen : take q.unfrozen (drop (q.frozen + q.noted) block') ≡ U
+  pub brought_unfrozen : take q.unfrozen (drop (q.frozen + q.noted) block') ≡ unfrozen_part
   brought_unfrozen =
       ap (λ l. take q.unfrozen (drop (q.frozen + q.noted) l)) split
-      ∙ ap (take q.unfrozen) (drop_at (A ++ N) (U ++ G) (q.frozen + q.noted) long_an) ∙ take_at U G q.unfrozen long_u
+      ∙ ap (take q.unfrozen) (drop_at (frozen_part ++ noted_part) (unfrozen_part ++ rest_part) (q.frozen + q.noted) long_an) ∙ take_at unfrozen_part rest_part q.unfrozen long_u
 
-  brought_queued : queued brought block' ≡ record { noted = []; unfrozen = U; frozen = A ++ N; due = [] }
+  brought_queued : queued brought block' ≡ record { noted = []; unfrozen = unfrozen_part; frozen = frozen_part ++ noted_part; due = [] }
   brought_queued = same_queued
       (ap reverse (drop_all (length block' - 0) block' (omega arith)))
       brought_unfrozen
-      (ap (take (q.frozen + q.noted)) split ∙ take_at (A ++ N) (U ++ G) (q.frozen + q.noted) long_an)
+      (ap (take (q.frozen + q.noted)) split ∙ take_at (frozen_part ++ noted_part) (unfrozen_part ++ rest_part) (q.frozen + q.noted) long_an)
       (none_due (drop q.next block') none)
 
   pub freeze_all_step : (asks : Reading → Reading → Bool) (r : Bool) (q₂ : Queue) (block₂ : List Entry)
@@ -256,7 +256,7 @@ module _ (q : Queue) (block block' : List Entry) (none : q.due ≡ 0) (fits : q.
       record {
         answers = step.answers ∙ can₁ ∙ sym can;
         made = λ _. step.made can₁ ∙ ap (freeze asks) brought_queued
-            ∙ same_queued refl refl (append_assoc A N (judged_all asks U)) (sym (none_due (drop q.next block) none));
+            ∙ same_queued refl refl (append_assoc frozen_part noted_part (judged_all asks unfrozen_part)) (sym (none_due (drop q.next block) none));
         stays = λ not. absurd (true≢false (sym can ∙ not));
         roomy = λ room. step.roomy (record { held = omega (arith, brought_long); front = omega (arith, brought_long) });
       }
@@ -303,7 +303,7 @@ take_some : {X : Type 0} (full : Bool) (n : ℕ) (l : List X) → take (cond ful
 take_some true n l = refl
 take_some false n l = refl
 
--- A batch leaves: the oldest noted were brought in behind the frozen, and the failed rows written behind them.
+-- frozen_part batch leaves: the oldest noted were brought in behind the frozen, and the failed rows written behind them.
 pub leave_step : (kind : Kind) (full : Bool) (j n keep : ℕ) (states : List FilterState) (q : Queue) (block block₁ ys : List Entry) (out most k r : ℕ)
     → can_leave full j n keep q block ≡ true → out ≡ q.noted - keep → most ≡ cond full (n - out) 0 → k ≡ most → length block₁ ≡ length block
     → take (q.frozen + out) block₁ ≡ take q.frozen block ++ take out (queued q block).noted
@@ -320,27 +320,27 @@ leave_step kind full j n keep states q block block₁ ys out most k r can is_out
     let none = parts.0 in
     let most_is : most ≡ cond full (n - (q.noted - keep)) 0 = is_most ∙ ap (λ m. cond full (n - m) 0) is_out in
     let fits : q.frozen + q.unfrozen + q.noted + most ≤ length block = omega (arith, parts.1) in
-    let N = (queued q block).noted in
-    let long_n : length N ≡ q.noted = length-reverse (drop (length block - q.noted) block) ∙ omega (arith, length-drop (length block - q.noted) block) in
+    let noted_part = (queued q block).noted in
+    let long_n : length noted_part ≡ q.noted = length-reverse (drop (length block - q.noted) block) ∙ omega (arith, length-drop (length block - q.noted) block) in
     let at = q.frozen + out in
     let inside : length (take k (drop at block₁)) ≡ k = length-take-le k (drop at block₁) (omega (arith, length-drop at block₁)) in
     let many : length ys ≡ k = same ∙ inside in
     let block₂ = put_mid at k block₁ ys in
     let long₂ : length block₂ ≡ length block = put_length at k block₁ ys many (omega arith) ∙ long₁ in
     let failing = failed kind j states in
-    let written : take r ys ≡ cond full (take (n - (length N - keep)) failing) [] =
-    writes ∙ ap (λ m. take m failing) (inside ∙ is_k ∙ most_is ∙ ap (λ m. cond full (n - (m - keep)) 0) (sym long_n)) ∙ take_some full (n - (length N - keep)) failing in
-    let gone : out ≡ length N - keep = is_out ∙ ap (λ m. m - keep) (sym long_n) in
+    let written : take r ys ≡ cond full (take (n - (length noted_part - keep)) failing) [] =
+    writes ∙ ap (λ m. take m failing) (inside ∙ is_k ∙ most_is ∙ ap (λ m. cond full (n - (m - keep)) 0) (sym long_n)) ∙ take_some full (n - (length noted_part - keep)) failing in
+    let gone : out ≡ length noted_part - keep = is_out ∙ ap (λ m. m - keep) (sym long_n) in
     done can (same_queued
     (ap reverse (ap (λ m. drop (m - (q.noted - out)) block₂) long₂
     ∙ drop-put_mid at k block₁ ys (length block - (q.noted - out)) (omega arith) (omega arith) many ∙ back)
-    ∙ reverse-reverse (drop out N) ∙ ap (λ m. drop m N) gone)
+    ∙ reverse-reverse (drop out noted_part) ∙ ap (λ m. drop m noted_part) gone)
     (ap (λ m. take m (drop (at + r) block₂)) nothing ∙ sym (ap (λ m. take m (drop q.frozen block)) nothing))
     (take-add at r block₂
     ∙ ap (λ l. l ++ take r (drop at block₂)) (take-put_mid_below at k block₁ ys at (omega arith) (omega arith) ∙ front)
-    ∙ ap (λ l. (take q.frozen block ++ take out N) ++ take r l) (drop_at (take at block₁) (ys ++ drop k (drop at block₁)) at (length-take-le at block₁ (omega arith)))
-    ∙ ap (λ l. (take q.frozen block ++ take out N) ++ l) (take-append-le r ys (drop k (drop at block₁)) (omega arith) ∙ written)
-    ∙ append_assoc (take q.frozen block) (take out N) (cond full (take (n - (length N - keep)) failing) [])
-    ∙ ap (λ m. take q.frozen block ++ (take m N ++ cond full (take (n - (length N - keep)) failing) [])) gone)
+    ∙ ap (λ l. (take q.frozen block ++ take out noted_part) ++ take r l) (drop_at (take at block₁) (ys ++ drop k (drop at block₁)) at (length-take-le at block₁ (omega arith)))
+    ∙ ap (λ l. (take q.frozen block ++ take out noted_part) ++ l) (take-append-le r ys (drop k (drop at block₁)) (omega arith) ∙ written)
+    ∙ append_assoc (take q.frozen block) (take out noted_part) (cond full (take (n - (length noted_part - keep)) failing) [])
+    ∙ ap (λ m. take q.frozen block ++ (take m noted_part ++ cond full (take (n - (length noted_part - keep)) failing) [])) gone)
     (none_due (drop q.next block₂) none ∙ sym (none_due (drop q.next block) none)))
     (λ room. record { held = omega (arith, long₂); front = omega (arith, long₂, room.front) })
