@@ -86,7 +86,7 @@ module _ {K : Type 0} (within across : K → K → Ordering) (filter : Option As
   abbrev pub RecordsComeInSequence : ℕ → (lefts rights : List (Row K)) → Type 0
   RecordsComeInSequence n lefts rights = is_full kind ≡ false → InSequence (side_records n lefts rights)
 
--- AllByRecursion of it, for one order of keys, filter or none, and kind.
+-- All of it, for one order of keys, filter or none, and kind.
 pub record MergingYieldsTheJoinedTable {K : Type 0} (within across : K → K → Ordering) (filter : Option Asks) (kind : Kind) : Type 0 where
   pub a_record_is_in_the_table_exactly_when_it_belongs : (lefts rights : List (Row K)) → TableIsWhatBelongs within across filter kind lefts rights
   pub the_path_contributes_the_joined_table : (lefts rights : List (Row K)) → PathContributesTheTable within across filter kind lefts rights
