@@ -303,7 +303,7 @@ take_some : {X : Type 0} (full : Bool) (n : ℕ) (l : List X) → take (cond ful
 take_some true n l = refl
 take_some false n l = refl
 
--- frozen_part batch leaves: the oldest noted were brought in behind the frozen, and the failed rows written behind them.
+-- A batch leaves: the oldest noted were brought in behind the frozen, and the failed rows written behind them.
 pub leave_step : (kind : Kind) (full : Bool) (j n keep : ℕ) (states : List FilterState) (q : Queue) (block block₁ ys : List Entry) (out most k r : ℕ)
     → can_leave full j n keep q block ≡ true → out ≡ q.noted - keep → most ≡ cond full (n - out) 0 → k ≡ most → length block₁ ≡ length block
     → take (q.frozen + out) block₁ ≡ take q.frozen block ++ take out (queued q block).noted
