@@ -15,14 +15,14 @@ const RIGHT: Record = Record::RightAlone(8);
 fn list_takes_what_it_has_room_for(rt: HostRuntime) -> Result<(), Fail> {
     let mut list = RecordList::with_room(rt.alloc(), 2)?;
     assert_eq!(rt; take_all(&mut list, &[PAIR, LEFT, RIGHT]), 2);
-    assert_eq!(rt; list.records(), &[PAIR, LEFT]);
+    assert_eq!(rt; list.records(), [PAIR, LEFT].as_slice());
     assert!(rt; !list.fits(RIGHT));
     assert_eq!(rt; list.take(RIGHT), Err(Unfit));
-    assert_eq!(rt; list.records(), &[PAIR, LEFT]);
+    assert_eq!(rt; list.records(), [PAIR, LEFT].as_slice());
     assert_eq!(rt; list.room(), 2);
     list.clear();
     assert_eq!(rt; list.take(RIGHT), Ok(()));
-    assert_eq!(rt; list.records(), &[RIGHT]);
+    assert_eq!(rt; list.records(), [RIGHT].as_slice());
     Ok(())
 }
 
@@ -78,6 +78,6 @@ fn cap_keeps_its_takes_where_the_sink_below_is_full(rt: HostRuntime) -> Result<(
     assert_eq!(rt; take_all(&mut cap, &[PAIR, LEFT]), 1);
     let (list, left) = cap.into_parts();
     assert_eq!(rt; left, 4);
-    assert_eq!(rt; list.records(), &[PAIR]);
+    assert_eq!(rt; list.records(), [PAIR].as_slice());
     Ok(())
 }
