@@ -1,10 +1,8 @@
 -- A batch that is taken into a memory with room for it.
-use Rattle.std.proofs.Common.{◌≡◌, ℕ, ◌<◌, ◌≤◌, Bool, true, false, cond, leb, List, [], ◌∷◌, ◌++◌, length, take, drop, Ok, Err, fold, Result, sym, refl, ap, ◌∙◌, subst, append_assoc, append-nil, arith}
+use Rattle.std.proofs.Common.{◌≡◌, ℕ, ◌<◌, ◌≤◌, true, leb, List, [], ◌∷◌, ◌++◌, length, take, Ok, fold, sym, refl, ap, ◌∙◌, append_assoc, append-nil, arith}
 use Rattle.std.proofs.lemmas.Bool.{le-leb}
 use Rattle.std.proofs.lemmas.List.{take_all, take-append-le, length-append, length-drop, length-take}
-use Rattle.sources.specs.declared.fault.SourceFault.{SourceFault}
-use Rattle.sources.specs.declared.source.Next.{Next}
-use Rattle.sources.specs.declared.source.Next.TheVariants.{Batch, End}
+use Rattle.sources.specs.declared.source.Next.TheVariants.{Batch}
 use Rattle.sources.specs.declared.source.Closing.{Closing}
 use Rattle.sources.specs.declared.source.Closing.TheVariants.{End as ended, Fault as faulted}
 use Rattle.sources.specs.Meaning.{upcoming, take_of}

@@ -1,5 +1,5 @@
 -- The kind of key that a log tells.
-use Rattle.std.specs.Prelude.{ℕ, Bool, cond, ◌&&◌, List, [], ◌∷◌, Some, None, Option, ◌==◌}
+use Rattle.std.specs.Prelude.{ℕ, cond, List, [], ◌∷◌, Some, None, Option, ◌==◌}
 use Rattle.hopmap.specs.declared.key_kinds.LogKind.{LogKind}
 use Rattle.hopmap.specs.declared.key_kinds.LogKind.TheVariants.{Frame, Label}
 

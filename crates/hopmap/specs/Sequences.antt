@@ -1,5 +1,5 @@
 -- Keys that come one by one, and the first that is before its predecessor.
-use Rattle.std.specs.Prelude.{ℕ, ◌+◌, Bool, true, false, cond, List, Some, None, fold, Option}
+use Rattle.std.specs.Prelude.{ℕ, ◌+◌, cond, List, Some, None, fold, Option}
 use Rattle.std.specs.declared.cmp.Ordering.{Ordering}
 use Rattle.rows.specs.declared.row.Row.{Row}
 use Rattle.rows.specs.Order.{is_after}

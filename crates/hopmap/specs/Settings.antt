@@ -1,6 +1,6 @@
 -- What the command line can set, and how a word sets it.
-use Rattle.std.specs.Prelude.{◌≡◌, ℕ, ◌^◌, ◌<◌, true, false, List, ℤ, pos, Some, None, Option, MatchOption, FitsSigned}
-use Rattle.std.specs.Int.{Width, w32}
+use Rattle.std.specs.Prelude.{◌≡◌, ℕ, ◌^◌, ◌<◌, List, ℤ, pos, Some, None, Option, MatchOption, FitsSigned}
+use Rattle.std.specs.Int.{w32}
 use Rattle.std.specs.Str.Parse.{IsNumeral, digits_value, without_leading_plus, without_leading_sign, signed_digits_value}
 use Rattle.orders.specs.declared.choices.Choices.{Choices}
 use Rattle.orders.specs.declared.choices.Direction.{Direction}

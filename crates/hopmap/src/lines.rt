@@ -1,5 +1,4 @@
-ghost use Rattle.std.specs.Prelude.{◌≡◌, Some as Known, codes, decimal};
-ghost use Rattle.std.specs.Fmt.{option_append};
+ghost use Rattle.std.specs.Prelude.{◌≡◌};
 ghost use Rattle.hopmap.specs.Lines.{fault_words, batch_text, row_text, fault_text, closing_text, summary_text, sequence_text, grade_text, refusal_text};
 
 use crate::table::TableRefusal;

@@ -22,6 +22,7 @@ use lines::GradeLine;
 use settings::Settings;
 use sources::source::Closing;
 use std::io::{BufWriter, Write};
+use std::process::ExitCode;
 use std::{env, fs, io};
 
 // How the process ends: with status 0, or 1.
@@ -30,10 +31,6 @@ enum Exit {
     Success,
     Failure,
 }
-
-// The process ends with status 1; what there is to say is printed.
-#[derive(Clone, Copy)]
-struct Failed;
 
 fn exit_of(closing: Closing) -> Exit {
     match closing {
@@ -146,13 +143,14 @@ fn run(rt: &HostRuntime) -> io::Result<Exit> {
     }
 }
 
-fn main(rt: HostRuntime) -> Result<(), Failed> {
+// Ends with status 1, and without a further word, where what there is to say is printed.
+fn main(rt: HostRuntime) -> ExitCode {
     match run(&rt) {
-        Ok(Exit::Success) => Ok(()),
-        Ok(Exit::Failure) => Err(Failed),
+        Ok(Exit::Success) => ExitCode::SUCCESS,
+        Ok(Exit::Failure) => ExitCode::FAILURE,
         Err(error) => {
             let _ = eprintln!(rt; "hopmap: {error}");
-            Err(Failed)
+            ExitCode::FAILURE
         }
     }
 }

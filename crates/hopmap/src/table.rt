@@ -16,7 +16,7 @@ use rows::order::KeyOrder;
 use rows::record::Record;
 use rows::row::Row;
 use sources::fault::SourceFault;
-use sources::kind::{Frames, KeyKind, Labels};
+use sources::kind::{Frames, Labels};
 use sources::log::Log;
 use sources::source::{Closing, Source};
 use std::alloc::{AllocError, Global};

@@ -1,7 +1,6 @@
 ghost use Rattle.std.specs.Prelude.{◌≡◌};
 ghost use Rattle.hopmap.specs.Wanted.{asked, wanted_of};
 
-use crate::settings::Settings;
 use filters::both::BothFilters;
 use filters::filter::{Filter, Verdict};
 use filters::grade::GradeFilter;
