@@ -1,5 +1,5 @@
 #!/usr/bin/env python3
-"""Runs target/bin/hopmap on stored cases and compares what it writes and its status.
+"""Runs crates/hopmap/out/hopmap on stored cases and compares what it writes and its status.
 
 A case is a file tests/cases/NAME.case of sections, each begun by a line '== WORD ..':
 
@@ -24,7 +24,7 @@ import sys
 import tempfile
 
 ROOT = pathlib.Path(__file__).resolve().parent.parent
-PROGRAM = ROOT / "target" / "bin" / "hopmap"
+PROGRAM = ROOT / "crates" / "hopmap" / "out" / "hopmap"
 CASES = ROOT / "tests" / "cases"
 sys.path.insert(0, str(ROOT / "samples"))
 sys.dont_write_bytecode = True
