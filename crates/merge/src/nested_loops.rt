@@ -11,7 +11,7 @@ use rows::kind::Kind;
 use rows::order::KeyOrder;
 use rows::record::Record;
 use rows::row::Row;
-use std::alloc::{AllocError, AllocFailed, Global};
+use std::alloc::{AllocError, Global};
 use std::cmp::Ordering;
 
 // Why there is no table.
