@@ -2,7 +2,7 @@
 use Rattle.std.specs.Prelude.{◌≡◌, ℕ, ◌+◌, ◌-◌, ◌^◌, min, Bool, true, false, cond, ◌&&◌, List, [], ◌∷◌, Some, None, Ok, Err, Option, Result, ◌==◌}
 use Rattle.hopmap.specs.declared.args.Progress.{Progress}
 use Rattle.hopmap.specs.declared.args.Slip.{Slip}
-use Rattle.hopmap.specs.declared.args.Slip.TheVariants.{UnknownOption, BadValue}
+use Rattle.hopmap.specs.declared.args.Slip.TheVariants.{NoCommand, UnknownCommand, UnknownOption, NoValue, BadValue, WrongLogs}
 use Rattle.hopmap.specs.declared.settings.Setting.{Setting}
 use Rattle.hopmap.specs.declared.settings.Settings.{Settings}
 use Rattle.hopmap.specs.declared.settings.Switch.{Switch}
@@ -10,6 +10,15 @@ use Rattle.hopmap.specs.declared.verb.Verb.{Verb}
 use Rattle.hopmap.specs.Names.{Tells, setting_name, switch_name}
 use Rattle.hopmap.specs.Settings.{usual, Sets, switched}
 use Rattle.hopmap.specs.Verbs.{takes, has}
+
+-- every slip but a bad value is about the call as a whole
+abbrev pub is_about_call : Slip → Bool
+is_about_call (BadValue setting) = false
+is_about_call NoCommand = true
+is_about_call UnknownCommand = true
+is_about_call (UnknownOption verb) = true
+is_about_call (NoValue setting) = true
+is_about_call (WrongLogs verb) = true
 
 -- a word that begins with two dashes (byte 45) names an option
 abbrev pub dashed : List ℕ → Bool

@@ -1,5 +1,5 @@
 ghost use Rattle.std.specs.Prelude.{◌≡◌};
-ghost use Rattle.hopmap.specs.Words.{dashed, start, ReadsOption, ReadsValue, with_log, ReadsWord};
+ghost use Rattle.hopmap.specs.Words.{is_about_call, dashed, start, ReadsOption, ReadsValue, with_log, ReadsWord};
 
 use crate::settings::{Setting, Settings, Switch};
 use crate::verb::Verb;
@@ -44,7 +44,9 @@ pub struct CallError<'a> {
 
 impl CallError<'_> {
     // Whether the call as a whole is wrong, and not one value in it.
-    pub fn is_about_call(&self) -> bool {
+    pub fn is_about_call(&self) -> bool
+        ensures { result ≡ is_about_call self.now.slip }
+    {
         match self.slip {
             Slip::BadValue(_) => false,
             _ => true,

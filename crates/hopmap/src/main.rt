@@ -25,17 +25,11 @@ use std::io::{BufWriter, Write};
 use std::process::ExitCode;
 use std::{env, fs, io};
 
-// How the process ends: with status 0, or 1.
-#[derive(Clone, Copy)]
-enum Exit {
-    Success,
-    Failure,
-}
-
-fn exit_of(closing: Closing) -> Exit {
+// Status 0 where a log ends as it should, and 1 where it has a fault.
+fn exit_of(closing: Closing) -> ExitCode {
     match closing {
-        Closing::End => Exit::Success,
-        Closing::Fault(_) => Exit::Failure,
+        Closing::End => ExitCode::SUCCESS,
+        Closing::Fault(_) => ExitCode::FAILURE,
     }
 }
 
@@ -50,9 +44,9 @@ fn read_file(rt: &HostRuntime, name: &str) -> io::Result<Option<Vec<u8>>> {
     }
 }
 
-fn show_file(rt: &HostRuntime, log: &str, settings: &Settings) -> io::Result<Exit> {
+fn show_file(rt: &HostRuntime, log: &str, settings: &Settings) -> io::Result<ExitCode> {
     let Some(bytes) = read_file(rt, log)? else {
-        return Ok(Exit::Failure);
+        return Ok(ExitCode::FAILURE);
     };
     let mut out = BufWriter::new(rt.alloc(), rt.stdout())?;
     let closing = show::show(rt.alloc(), &mut out, bytes.as_slice(), settings)?;
@@ -77,9 +71,9 @@ fn print_counts(rt: &HostRuntime, counts: &GradeCounts) -> io::Result<()> {
     println!(rt; "{line}")
 }
 
-fn grades_of_file(rt: &HostRuntime, log: &str) -> io::Result<Exit> {
+fn grades_of_file(rt: &HostRuntime, log: &str) -> io::Result<ExitCode> {
     let Some(bytes) = read_file(rt, log)? else {
-        return Ok(Exit::Failure);
+        return Ok(ExitCode::FAILURE);
     };
     let (counts, summary) = grades::count_grades(rt.alloc(), bytes.as_slice())?;
     print_counts(rt, &counts)?;
@@ -92,12 +86,12 @@ fn table_of_files(
     sent: &str,
     heard: &str,
     settings: &Settings,
-) -> io::Result<Exit> {
+) -> io::Result<ExitCode> {
     let Some(left) = read_file(rt, sent)? else {
-        return Ok(Exit::Failure);
+        return Ok(ExitCode::FAILURE);
     };
     let Some(right) = read_file(rt, heard)? else {
-        return Ok(Exit::Failure);
+        return Ok(ExitCode::FAILURE);
     };
     match table::table(rt.alloc(), left.as_slice(), right.as_slice(), settings) {
         Ok(records) => {
@@ -108,21 +102,21 @@ fn table_of_files(
             let count = records.len();
             writeln!(out, "{count} records")?;
             out.flush()?;
-            Ok(Exit::Success)
+            Ok(ExitCode::SUCCESS)
         }
         Err(refusal) => {
             eprintln!(rt; "{refusal}")?;
-            Ok(Exit::Failure)
+            Ok(ExitCode::FAILURE)
         }
     }
 }
 
-fn run(rt: &HostRuntime) -> io::Result<Exit> {
+fn run(rt: &HostRuntime) -> io::Result<ExitCode> {
     let words: Vec<String> = env::args(rt)?.skip(1).collect(rt.alloc())?;
     match args::read(words.as_slice()) {
         Ok(Command::Help) => {
             rt.print(usage::USAGE)?;
-            Ok(Exit::Success)
+            Ok(ExitCode::SUCCESS)
         }
         Ok(Command::Show { log, settings }) => show_file(rt, log, &settings),
         Ok(Command::Grades { log }) => grades_of_file(rt, log),
@@ -138,16 +132,15 @@ fn run(rt: &HostRuntime) -> io::Result<Exit> {
             if error.is_about_call() {
                 rt.eprint(usage::USAGE)?;
             }
-            Ok(Exit::Failure)
+            Ok(ExitCode::FAILURE)
         }
     }
 }
 
-// Ends with status 1, and without a further word, where what there is to say is printed.
+// Where what there is to say is printed already, ends with status 1 and without a further word.
 fn main(rt: HostRuntime) -> ExitCode {
     match run(&rt) {
-        Ok(Exit::Success) => ExitCode::SUCCESS,
-        Ok(Exit::Failure) => ExitCode::FAILURE,
+        Ok(code) => code,
         Err(error) => {
             let _ = eprintln!(rt; "hopmap: {error}");
             ExitCode::FAILURE

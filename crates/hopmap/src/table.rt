@@ -1,8 +1,8 @@
-ghost use Rattle.std.specs.Prelude.{◌≡◌, IfOk, vec_items};
+ghost use Rattle.std.specs.Prelude.{◌≡◌, IfOk, length, vec_items};
 ghost use Rattle.merge.specs.Joined.{joined, filter_of};
 ghost use Rattle.hopmap.specs.Fetching.{all_rows};
 ghost use Rattle.hopmap.specs.Wanted.{asked};
-ghost use Rattle.hopmap.specs.Tables.{Loads, frame_table, label_table, table_of};
+ghost use Rattle.hopmap.specs.Tables.{Loads, RefusesBecause, RefusesAs, RefusesLogs, frame_table, label_table, table_of};
 ghost use Rattle.hopmap.specs.declared.table.TableRefusal.TheVariants.{Memory};
 
 use crate::key_kinds::{BLANK_FRAME, BLANK_LABEL, LogKind, told_kind};
@@ -69,7 +69,8 @@ fn table_of_kind<S: Source, O: KeyOrder<Key = S::Key>>(
 ) -> Result<Vec<Record>, TableRefusal>
 where
     S::Key: Copy + Clone,
-    ensures { IfOk result (λ table. table.items ≡ joined kind (O.KeyOrder.across order.now) (filter_of asked filter.now) (all_rows (S.Source.batches sent.old)) (all_rows (S.Source.batches heard.old))) }
+    ensures table { IfOk result (λ table. table.items ≡ joined kind (O.KeyOrder.across order.now) (filter_of asked filter.now) (all_rows (S.Source.batches sent.old)) (all_rows (S.Source.batches heard.old))) }
+    ensures refusal { RefusesBecause (S.Source.closing sent.old) (S.Source.closing heard.old) (length (all_rows (S.Source.batches sent.old))) (length (all_rows (S.Source.batches heard.old))) result }
 {
     let left = rows_of(heap, Side::Left, sent, blank)?;
     let right = rows_of(heap, Side::Right, heard, blank)?;
@@ -87,7 +88,8 @@ fn frame_table<'a>(
     heard: &'a [u8],
     settings: &Settings,
 ) -> Result<Vec<Record>, TableRefusal>
-    ensures { IfOk result (λ table. table.items ≡ frame_table settings.now sent.now heard.now) }
+    ensures table { IfOk result (λ table. table.items ≡ frame_table settings.now sent.now heard.now) }
+    ensures refusal { RefusesAs LogKind.Frame sent.now heard.now result }
 {
     let order = FrameOrder::new(settings.choices.direction, settings.choices);
     let filter = filter_for(settings.grade, settings.window);
@@ -111,7 +113,8 @@ fn label_table<'a>(
     heard: &'a [u8],
     settings: &Settings,
 ) -> Result<Vec<Record>, TableRefusal>
-    ensures { IfOk result (λ table. table.items ≡ label_table settings.now sent.now heard.now) }
+    ensures table { IfOk result (λ table. table.items ≡ label_table settings.now sent.now heard.now) }
+    ensures refusal { RefusesAs LogKind.Label sent.now heard.now result }
 {
     let order = LabelOrder::new(settings.choices);
     let filter = filter_for(settings.grade, settings.window);
@@ -135,7 +138,8 @@ pub fn table<'a>(
     heard: &'a [u8],
     settings: &Settings,
 ) -> Result<Vec<Record>, TableRefusal>
-    ensures { IfOk result (λ table. table.items ≡ table_of settings.now sent.now heard.now) }
+    ensures table { IfOk result (λ table. table.items ≡ table_of settings.now sent.now heard.now) }
+    ensures refusal { RefusesLogs sent.now heard.now result }
 {
     match told_kind(sent).unwrap_or(LogKind::Frame) {
         LogKind::Frame => frame_table(heap, sent, heard, settings),
