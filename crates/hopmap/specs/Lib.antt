@@ -6,6 +6,7 @@ pub mod Names
 pub mod Sequences
 pub mod Settings
 pub mod Shows
+pub mod Slips
 pub mod Summaries
 pub mod Tables
 pub mod Totals

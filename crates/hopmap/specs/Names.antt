@@ -25,6 +25,15 @@ setting_name setting.Kind = codes "--kind"
 setting_name setting.Grade = codes "--grade"
 setting_name setting.Window = codes "--window"
 
+-- what may stand after its name
+abbrev pub setting_takes : Setting → List ℕ
+setting_takes setting.Clock = codes "a whole number of milliseconds from -2147483648 to 2147483647"
+setting_takes setting.Order = codes "up or down"
+setting_takes setting.Missing = codes "first or last"
+setting_takes setting.Kind = codes "inner, left, right or full"
+setting_takes setting.Grade = codes "a whole number from 0 to 255, held within 1 to 5"
+setting_takes setting.Window = codes "a whole number of milliseconds from 0 to 4294967295"
+
 abbrev pub switch_name : Switch → List ℕ
 switch_name switch.MissingEqual = codes "--missing-equal"
 

@@ -1,4 +1,5 @@
 ghost use Rattle.std.specs.Prelude.{◌≡◌};
+ghost use Rattle.hopmap.specs.Slips.{slip_text};
 ghost use Rattle.hopmap.specs.Words.{is_about_call, dashed, start, ReadsOption, ReadsValue, with_log, ReadsWord};
 
 use crate::settings::{Setting, Settings, Switch};
@@ -214,6 +215,8 @@ fn asked(verb: Verb, progress: Progress, words: &[String]) -> Command<'_> {
 }
 
 impl fmt::Display for CallError<'_> {
+    ghost output = { λ error. slip_text error.slip error.word.now };
+
     fn fmt<W: fmt::Write>(&self, f: &mut fmt::Formatter<W>) -> fmt::Result {
         let word = self.word;
         match self.slip {

@@ -1,5 +1,5 @@
 ghost use Rattle.std.specs.Prelude.{◌≡◌};
-ghost use Rattle.hopmap.specs.Names.{Tells, setting_name, switch_name, direction_name, missing_name, kind_name};
+ghost use Rattle.hopmap.specs.Names.{Tells, setting_name, setting_takes, switch_name, direction_name, missing_name, kind_name};
 ghost use Rattle.hopmap.specs.Settings.{Reads8, Reads32, ReadsSigned32, usual, Sets, switched};
 
 use orders::choices::{Choices, Direction, MissingEquals, MissingPlace};
@@ -64,7 +64,9 @@ impl Setting {
     }
 
     // What may stand after its name, in words.
-    pub fn takes(self) -> &'static str {
+    pub fn takes(self) -> &'static str
+        ensures { result.now ≡ setting_takes self }
+    {
         match self {
             Setting::Clock => "a whole number of milliseconds from -2147483648 to 2147483647",
             Setting::Order => "up or down",
