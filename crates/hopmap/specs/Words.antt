@@ -1,5 +1,5 @@
 -- How the words of a call are read, one after another.
-use Rattle.std.specs.Prelude.{◌≡◌, ℕ, ◌+◌, ◌-◌, ◌^◌, min, Bool, true, false, cond, ◌&&◌, List, [], ◌∷◌, Some, None, Ok, Err, Option, Result, ◌==◌}
+use Rattle.std.specs.Prelude.{◌≡◌, ℕ, ◌+◌, ◌-◌, ◌^◌, ◌⊎◌, min, Bool, true, false, cond, ◌&&◌, List, [], ◌∷◌, Some, None, Ok, Err, Option, Result, ◌==◌}
 use Rattle.hopmap.specs.declared.args.Progress.{Progress}
 use Rattle.hopmap.specs.declared.args.Slip.{Slip}
 use Rattle.hopmap.specs.declared.args.Slip.TheVariants.{NoCommand, UnknownCommand, UnknownOption, NoValue, BadValue, WrongLogs}
@@ -9,7 +9,7 @@ use Rattle.hopmap.specs.declared.settings.Switch.{Switch}
 use Rattle.hopmap.specs.declared.verb.Verb.{Verb}
 use Rattle.hopmap.specs.Names.{Tells, setting_name, switch_name}
 use Rattle.hopmap.specs.Settings.{usual, Sets, switched}
-use Rattle.hopmap.specs.Verbs.{takes, has}
+use Rattle.hopmap.specs.Verbs.{takes, has, logs_of}
 
 -- every slip but a bad value is about the call as a whole
 abbrev pub is_about_call : Slip → Bool
@@ -75,3 +75,15 @@ ReadsBy None verb p place text r = ReadsFree (dashed text) verb p place text r
 
 abbrev pub ReadsWord : Verb → Progress → ℕ → List ℕ → Result Progress Slip → Type 0
 ReadsWord verb p place text r = ReadsBy p.awaited verb p place text r
+
+-- after the last word a setting still awaits its value, or the command takes another number of logs, or all is read
+abbrev pub read_by : Option Setting → Verb → Progress → ℕ → Result Progress (Slip × ℕ)
+read_by (Some setting) verb p place = Err (NoValue setting, place)
+read_by None verb p place = cond (p.logs == logs_of verb) (Ok p) (Err (WrongLogs verb, place))
+
+-- the words are gone through from first to last; the first slip ends it, and names the place of its word
+abbrev pub ReadsWords : Verb → Progress → ℕ → List (List ℕ) → Result Progress (Slip × ℕ) → Type 0
+ReadsWords verb p place [] r = r ≡ read_by p.awaited verb p place
+ReadsWords verb p place (text ∷ more) r =
+    ((q : Progress) × ReadsWord verb p place text (Ok q) × ReadsWords verb q (place + 1) more r)
+    ⊎ ((slip : Slip) × ReadsWord verb p place text (Err slip) × (r ≡ Err (slip, place)))

@@ -1,6 +1,6 @@
-ghost use Rattle.std.specs.Prelude.{◌≡◌};
+ghost use Rattle.std.specs.Prelude.{◌≡◌, map, string_bytes};
 ghost use Rattle.hopmap.specs.Slips.{slip_text};
-ghost use Rattle.hopmap.specs.Words.{is_about_call, dashed, start, ReadsOption, ReadsValue, with_log, ReadsWord};
+ghost use Rattle.hopmap.specs.Words.{is_about_call, dashed, start, ReadsOption, ReadsValue, with_log, ReadsWord, ReadsWords};
 
 use crate::settings::{Setting, Settings, Switch};
 use crate::verb::Verb;
@@ -147,7 +147,9 @@ impl Progress {
 }
 
 // What the words after the command's name say, or the slip and the place of its word.
-fn read_words(verb: Verb, words: &[String]) -> Result<Progress, (Slip, usize)> {
+fn read_words(verb: Verb, words: &[String]) -> Result<Progress, (Slip, usize)>
+    ensures { ReadsWords verb start 0 (map string_bytes words.now) result }
+{
     let mut progress = Progress::start();
     for (place, word) in words.iter().enumerate() {
         match progress.word(verb, place, word.as_str()) {
