@@ -1,5 +1,5 @@
--- The kinds of join and their numbers.
-use Rattle.std.specs.Prelude.{ℕ, zero, suc, Some, None, Option}
+-- The kinds of join, their numbers and their names.
+use Rattle.std.specs.Prelude.{ℕ, List, codes, zero, suc, Some, None, Option}
 use Rattle.rows.specs.declared.kind.Kind.{Kind}
 use Rattle.rows.specs.declared.kind.Kind.TheVariants.{Inner, Left, Right, Full}
 
@@ -16,3 +16,9 @@ numbered (suc zero) = Some Left
 numbered (suc (suc zero)) = Some Right
 numbered (suc (suc (suc zero))) = Some Full
 numbered (suc (suc (suc (suc n)))) = None
+
+abbrev pub kind_name : Kind → List ℕ
+kind_name Inner = codes "inner"
+kind_name Left = codes "left"
+kind_name Right = codes "right"
+kind_name Full = codes "full"

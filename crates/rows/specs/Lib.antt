@@ -1,4 +1,6 @@
 pub mod Kinds
 pub mod Levels
+pub mod Names
 pub mod Order
+pub mod Sides
 pub mod Texts

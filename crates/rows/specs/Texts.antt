@@ -5,13 +5,13 @@ use Rattle.std.specs.Fmt.{signed_decimal, digit_glyph, option_append}
 use Rattle.rows.specs.declared.key.FrameKey.{FrameKey}
 use Rattle.rows.specs.declared.key.LabelKey.{LabelKey}
 use Rattle.rows.specs.declared.kind.Kind.{Kind}
-use Rattle.rows.specs.declared.kind.Kind.TheVariants.{Inner, Left as LeftKind, Right as RightKind, Full}
 use Rattle.rows.specs.declared.kind.Side.{Side}
 use Rattle.rows.specs.declared.kind.Side.TheVariants.{Left, Right}
 use Rattle.rows.specs.declared.reading.Reading.{Reading}
 use Rattle.rows.specs.declared.record.Record.{Record}
 use Rattle.rows.specs.declared.record.Record.TheVariants.{Pair, LeftAlone, RightAlone}
 use Rattle.rows.specs.declared.row.Row.{Row}
+use Rattle.rows.specs.Kinds.{kind_name}
 use Rattle.rows.specs.Levels.{measured}
 
 -- words as they stand, a number in decimal, and a signed one
@@ -66,10 +66,7 @@ record_text (LeftAlone left) = line (words "lost " ∷ count left ∷ words " -"
 record_text (RightAlone right) = line (words "stranger - " ∷ count right ∷ [])
 
 abbrev pub kind_text : Kind → Option (List ℕ)
-kind_text Inner = words "inner"
-kind_text LeftKind = words "left"
-kind_text RightKind = words "right"
-kind_text Full = words "full"
+kind_text kind = Some (kind_name kind)
 
 -- the left log is what was sent, the right log what was heard
 abbrev pub side_text : Side → Option (List ℕ)

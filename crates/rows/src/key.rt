@@ -5,7 +5,7 @@ use crate::hex::Hex;
 use std::fmt;
 
 // The key of a frame: the node that sent it and the frame's number, which may be missing.
-#[derive(Clone, Copy, PartialEq, Eq, Debug)]
+#[derive(Clone, Copy, PartialEq, Eq, Debug, Default)]
 pub struct FrameKey {
     pub node: u16,
     pub number: Option<u32>,
@@ -22,7 +22,7 @@ impl fmt::Display for FrameKey {
 }
 
 // The key of a labelled row: twelve bytes, which may be missing.
-#[derive(Clone, Copy, PartialEq, Eq, Debug)]
+#[derive(Clone, Copy, PartialEq, Eq, Debug, Default)]
 pub struct LabelKey {
     pub label: Option<[u8; 12]>,
 }
@@ -31,10 +31,7 @@ impl fmt::Display for LabelKey {
     ghost output = { label_key_text };
 
     fn fmt<W: fmt::Write>(&self, f: &mut fmt::Formatter<W>) -> fmt::Result {
-        let label = match self.label {
-            Some(bytes) => OrDash(Some(Hex(bytes))),
-            None => OrDash(None),
-        };
+        let label = OrDash(self.label.map(Hex));
         write!(f, "label {label}")
     }
 }

@@ -6,7 +6,7 @@ use crate::dash::OrDash;
 use std::fmt;
 
 // What a receiver noted of a frame.
-#[derive(Clone, Copy, PartialEq, Eq, Debug)]
+#[derive(Clone, Copy, PartialEq, Eq, Debug, Default)]
 pub struct Reading {
     // in milliseconds
     pub moment: u32,
@@ -32,11 +32,7 @@ impl Reading {
     pub fn measured(&self) -> Option<i8>
         ensures { result ≡ known self.now.level }
     {
-        if self.level == Reading::NOT_MEASURED {
-            None
-        } else {
-            Some(self.level)
-        }
+        (self.level != Reading::NOT_MEASURED).then_some(self.level)
     }
 }
 

@@ -4,7 +4,7 @@ use crate::reading::Reading;
 use std::fmt;
 
 // A row of a log: tables, sources and join are written once for every kind of key.
-#[derive(Clone, Copy, PartialEq, Eq, Debug)]
+#[derive(Clone, Copy, PartialEq, Eq, Debug, Default)]
 pub struct Row<K> {
     pub key: K,
     pub reading: Reading,
