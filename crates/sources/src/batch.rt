@@ -43,11 +43,10 @@ pub(crate) struct Operands<'a> {
 fn take_apart<F: KeyKind>(bytes: &[u8]) -> Option<Operands<'_>>
     ensures { MatchOption result (length bytes.now < F.KeyKind.layout.width + 7) (λ row. Apart F.KeyKind.layout bytes.now row) }
 {
-    let width = F::key_width();
-    if bytes.len() < width {
+    if bytes.len() < F::WIDTH {
         return None;
     }
-    let (key, after) = bytes.split_at(width);
+    let (key, after) = bytes.split_at(F::WIDTH);
     let [a, b, c, d, level, e, f, rest @ ..] = after else {
         return None;
     };
@@ -98,7 +97,7 @@ pub(crate) fn next_batch<F: KeyKind>(bytes: &[u8], total: usize) -> Coming<'_>
 pub(crate) fn row_count<F: KeyKind>(rows: &[u8]) -> usize
     ensures { result ≡ length (rows_in F.KeyKind.layout rows.now) }
 {
-    rows.len() / (F::key_width() + BESIDE_KEY)
+    rows.len() / (F::WIDTH + BESIDE_KEY)
 }
 
 // Writes a batch's rows to the start of the memory.
