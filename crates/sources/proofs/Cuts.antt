@@ -1,13 +1,9 @@
 -- Rows cut every n rows.
-use Rattle.std.proofs.Common.{◌≡◌, ℕ, zero, suc, ◌+◌, ◌<◌, ◌≤◌, min, max, List, [], ◌∷◌, ◌++◌, length, take, drop, Ok, Result, sym, refl, ap, ◌∙◌, arith, length-drop, length-take}
+use Rattle.std.proofs.Common.{◌≡◌, ℕ, zero, suc, ◌+◌, ◌<◌, ◌≤◌, min, max, List, [], ◌∷◌, ◌++◌, length, take, drop, Some, Option, Ok, Result, sym, refl, ap, ◌∙◌, arith, length-drop, length-take}
 use Rattle.std.specs.List.{flat_map}
 use Rattle.std.proofs.lemmas.List.{take-append-drop, length-take-le, length-append, take_at, drop_at}
 use Rattle.sources.specs.declared.fault.SourceFault.{SourceFault}
-use Rattle.sources.specs.declared.source.Next.{Next}
-use Rattle.sources.specs.declared.source.Next.TheVariants.{Batch}
-use Rattle.sources.specs.declared.source.Closing.{Closing}
-use Rattle.sources.specs.declared.source.Closing.TheVariants.{End as ended}
-use Rattle.sources.specs.Meaning.{take_of, upcoming}
+use Rattle.sources.specs.Meaning.{Closing, take_of, upcoming}
 use Rattle.sources.specs.Memory.{first_cut, cut, Filled, CutEvery}
 use Rattle.sources.proofs.Takes.{takes_first}
 
@@ -110,16 +106,16 @@ module _ {A : Type 0} where
       only (max every 1) other (cut every rows) (omega arith) o.filled c.filled (o.whole ∙ sym c.whole)
 
   -- the size of the next batch
-  pub coming : (every : ℕ) (rows : List A) (n : ℕ) → 0 < length rows → n ≡ min (length rows) (max every 1) → Ok (Batch n) ≡ upcoming (cut every rows) ended
+  pub coming : (every : ℕ) (rows : List A) (n : ℕ) → 0 < length rows → n ≡ min (length rows) (max every 1) → Ok (Some n) ≡ upcoming (cut every rows) (Ok tt)
   coming every rows n h e =
-      rw (cut_more every rows h) (ap (λ k. let r : Result Next SourceFault = Ok (Batch k) in r) (let t = length-take (max every 1) rows in omega arith))
+      rw (cut_more every rows h) (ap (λ k. let r : Result (Option ℕ) SourceFault = Ok (Some k) in r) (let t = length-take (max every 1) rows in omega arith))
 
   -- what the next batch is, where it has n rows
   pub record First (every : ℕ) (rows : List A) (n : ℕ) : Type 0 where
     pub cuts : cut every rows ≡ take n rows ∷ cut every (drop n rows)
     pub within : n ≤ length rows
 
-  pub first : (every : ℕ) (rows : List A) (n : ℕ) → Ok (Batch n) ≡ upcoming (cut every rows) ended → First every rows n
+  pub first : (every : ℕ) (rows : List A) (n : ℕ) → Ok (Some n) ≡ upcoming (cut every rows) (Ok tt) → First every rows n
   first every [] n e = absurd (let z : ◌≡◌ {A = ℕ} 0 1 = cc in omega arith)
   first every (row ∷ rows) n e =
       let m = max every 1 in
@@ -132,7 +128,7 @@ module _ {A : Type 0} where
       }
 
   pub takes_cut : (every : ℕ) (rows : List A) (n : ℕ) (close : Closing) (memory : List A) → First every rows n → n ≤ length memory
-      → take_of (cut every rows) close memory ≡ record { answer = Ok (Batch n); left = cut every (drop n rows); memory = take n rows ++ drop n memory }
+      → take_of (cut every rows) close memory ≡ record { answer = Ok (Some n); left = cut every (drop n rows); memory = take n rows ++ drop n memory }
   takes_cut every rows n close memory f h =
       let l = length-take-le n rows f.within in
       let k : length (take n rows) ≤ length memory = omega arith in

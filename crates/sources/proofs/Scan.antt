@@ -1,17 +1,15 @@
 -- A scan over a log's commands, row by row, up to the command that closes the batch or the log.
-use Rattle.std.proofs.Common.{◌≡◌, ℕ, zero, suc, ◌+◌, ◌-◌, ◌*◌, ◌<◌, ◌≤◌, true, false, leb, List, [], ◌∷◌, ◌++◌, length, get_or, take, drop, sym, refl, ap, ◌∙◌, suc-mul, zero-mul, arith, Bor, eq-eqb, ne_eqb, le-leb}
+use Rattle.std.proofs.Common.{◌≡◌, ℕ, zero, suc, ◌+◌, ◌-◌, ◌*◌, ◌<◌, ◌≤◌, true, false, leb, List, [], ◌∷◌, ◌++◌, length, get_or, take, drop, Some, None, Ok, Err, sym, refl, ap, ◌∙◌, suc-mul, zero-mul, arith, eq-eqb, ne_eqb, le-leb}
 use Rattle.std.proofs.lemmas.Bool.{lt-leb}
-use Rattle.std.proofs.lemmas.List.{drop-drop, length-drop, take_rest}
-use Rattle.sources.specs.declared.batch.Coming.{Coming}
-use Rattle.sources.specs.declared.batch.Coming.TheVariants.{Batch, Closed}
+use Rattle.std.proofs.lemmas.List.{drop-drop, length-drop, length-take, take_rest}
+use Rattle.sources.specs.declared.batch.Batch.{Batch}
 use Rattle.sources.specs.declared.batch.Operands.{Operands}
 use Rattle.sources.specs.declared.fault.SourceFault.{SourceFault}
 use Rattle.sources.specs.declared.fault.SourceFault.TheVariants.{BadCommand, RunsOut, BadPresence}
-use Rattle.sources.specs.declared.source.Closing.{Closing}
-use Rattle.sources.specs.declared.source.Closing.TheVariants.{Fault}
+use Rattle.sources.specs.Meaning.{Closing}
 use Rattle.sources.specs.Layout.{Layout}
 use Rattle.sources.specs.Log.{Commands, row, last, broken, row_of, ended, commands, commands_of, batches_from, closing_of}
-use Rattle.sources.specs.Coming.{Apart, row_width, rows_of, rows_in, batches_left, closing_left, Found}
+use Rattle.sources.specs.Coming.{Coming, Apart, row_width, rows_of, rows_in, Found}
 use Rattle.sources.proofs.Rows.{some_part, no_part, rows_of_more, rows_in_front}
 
 -- what follows the first byte, as the checker reads a pattern's rest
@@ -29,8 +27,8 @@ after_header L [] rest h a b e = absurd (omega arith)
 after_header L (x ∷ []) rest h a b e = absurd (omega arith)
 after_header L (x ∷ code ∷ bytes) rest h a b e = rw (a, eq-eqb code L.code b, e)
 
-pub found_same : {K : Type 0} (L : Layout K) (total : ℕ) (all others : Commands K) (coming : Coming) (rest : List ℕ) → all ≡ others → Found L total all coming rest → Found L total others coming rest
-found_same L total all others coming rest e f = record { batches = f.batches ∙ ap (batches_from []) e; closing = f.closing ∙ ap closing_of e; within = f.within }
+pub found_same : {K : Type 0} (L : Layout K) (total : ℕ) (all others : Commands K) (coming : Coming) → all ≡ others → Found L total all coming → Found L total others coming
+found_same L total all others coming e f = record { batches = f.batches ∙ ap (batches_from []) e; closing = f.closing ∙ ap closing_of e; within = f.within }
 
 -- the scan has passed so many whole rows; they stand before the commands of the rest
 pub record Passed {K : Type 0} (L : Layout K) (total : ℕ) (bytes rest : List ℕ) : Type 0 where
@@ -78,7 +76,11 @@ module _ {K : Type 0} (L : Layout K) (total : ℕ) where
   last_none zero bytes closing h = refl
   last_none (suc n) bytes closing h = absurd (omega arith)
 
-  too_long : (bytes : List ℕ) → 0 < length bytes → ended total bytes ≡ Fault (BadCommand (total - length bytes))
+  ended_none : (bytes : List ℕ) → length bytes ≡ 0 → ended total bytes ≡ Ok tt
+  ended_none [] h = refl
+  ended_none (byte ∷ bytes) h = absurd (omega arith)
+
+  too_long : (bytes : List ℕ) → 0 < length bytes → ended total bytes ≡ Err (BadCommand (total - length bytes))
   too_long [] h = absurd (omega arith)
   too_long (byte ∷ bytes) h = refl
 
@@ -123,77 +125,83 @@ module _ {K : Type 0} (L : Layout K) (total : ℕ) where
     passed_less l r a = omega (arith, ap length a.rest, length-drop (L.width + 7) (after rest), ap length (take_rest rest 1), length-drop 1 rest)
 
     -- the rows passed, from the bytes that hold them
-    passed_rows : (held : List ℕ) → held ≡ take (length bytes - length rest - 0) bytes → rows_in L held ≡ rows_of L p.count bytes
+    passed_rows : (held : List ℕ) → held ≡ take (length bytes - length rest) bytes → rows_in L held ≡ rows_of L p.count bytes
     passed_rows held e =
-        let size : length bytes - length rest - 0 ≡ p.count * row_width L = omega (arith, passed_length) in
+        let size : length bytes - length rest ≡ p.count * row_width L = omega (arith, passed_length) in
         ap (rows_in L) (e ∙ ap (λ m. take m bytes) size) ∙ rows_in_front L p.count bytes p.inside
 
     module _ (fits : length bytes ≤ total) where
-      found_fault : (fault : SourceFault) (coming : Coming) → coming ≡ Closed (Fault fault) → commands L total 0 rest ≡ broken fault → Found L total (commands L total 0 bytes) coming rest
-      found_fault fault coming ec e = record {
-        batches = ap (λ x. batches_left L total x rest) ec ∙ sym (ap (batches_from (rows_of L p.count bytes)) e) ∙ p.batches;
-        closing = ap (λ x. closing_left L total x rest) ec ∙ sym (ap closing_of e) ∙ p.closing;
-        within = omega (arith, passed_length);
+      found_fault : (fault : SourceFault) → commands L total 0 rest ≡ broken fault → Found L total (commands L total 0 bytes) (Err fault)
+      found_fault fault e = record {
+        batches = sym (ap (batches_from (rows_of L p.count bytes)) e) ∙ p.batches;
+        closing = sym (ap closing_of e) ∙ p.closing;
+        within = omega arith;
       }
 
-      pub found_short : (coming : Coming) → 0 < length rest → get_or rest 0 0 ≡ 1 → length (after rest) < L.width + 7 → coming ≡ Closed (Fault (RunsOut (total - length rest)))
-          → Found L total (commands L total 0 bytes) coming rest
-      found_short coming l z h ec = found_fault _ coming ec (row_short rest (after rest) (first_is rest 1 l z) h)
+      pub found_short : 0 < length rest → get_or rest 0 0 ≡ 1 → length (after rest) < L.width + 7 → Found L total (commands L total 0 bytes) (Err (RunsOut (total - length rest)))
+      found_short l z h = found_fault _ (row_short rest (after rest) (first_is rest 1 l z) h)
 
-      pub found_bad : (coming : Coming) → 0 < length rest → get_or rest 0 0 ≡ 1 → (r : Operands) → Apart L (after rest) r → false ≡ L.valid r.key.now
-          → coming ≡ Closed (Fault (BadPresence (total - length rest))) → Found L total (commands L total 0 bytes) coming rest
-      found_bad coming l z r a v ec = found_fault _ coming ec (row_bad rest (after rest) (first_is rest 1 l z) a.whole (sym (v ∙ ap L.valid a.key)))
+      pub found_bad : 0 < length rest → get_or rest 0 0 ≡ 1 → (r : Operands) → Apart L (after rest) r → false ≡ L.valid r.key.now
+          → Found L total (commands L total 0 bytes) (Err (BadPresence (total - length rest)))
+      found_bad l z r a v = found_fault _ (row_bad rest (after rest) (first_is rest 1 l z) a.whole (sym (v ∙ ap L.valid a.key)))
 
-      pub found_unknown : (coming : Coming) → 0 < length rest → (get_or rest 0 0 ≡ 1 → ⊥) → (get_or rest 0 0 ≡ 2 → ⊥) → (get_or rest 0 0 ≡ 3 → ⊥)
-          → coming ≡ Closed (Fault (BadCommand (total - length rest))) → Found L total (commands L total 0 bytes) coming rest
-      found_unknown coming l a b c ec = found_fault _ coming ec (unknown rest l a b c)
+      pub found_unknown : 0 < length rest → (get_or rest 0 0 ≡ 1 → ⊥) → (get_or rest 0 0 ≡ 2 → ⊥) → (get_or rest 0 0 ≡ 3 → ⊥)
+          → Found L total (commands L total 0 bytes) (Err (BadCommand (total - length rest)))
+      found_unknown l a b c = found_fault _ (unknown rest l a b c)
 
       -- 02
-      pub found_closed : (rows : Bor (List ℕ)) → 0 < length rest → get_or rest 0 0 ≡ 2 → rows.now ≡ take (length bytes - length rest - 0) bytes
-          → Found L total (commands L total 0 bytes) (Batch rows) (after rest)
-      found_closed rows l z held =
+      pub found_closed : (batch : Batch) → 0 < length rest → get_or rest 0 0 ≡ 2 → batch.rows.now ≡ take (length bytes - length rest) bytes → batch.rest.now ≡ after rest
+          → Found L total (commands L total 0 bytes) (Ok (Some batch))
+      found_closed batch l z held left =
           let e : rest ≡ 2 ∷ after rest = first_is rest 2 l z in
           record {
             batches =
-                ap (λ rs. rs ∷ batches_from [] (commands L total 0 (after rest))) (passed_rows rows.now held)
+                ap (λ rs. rs ∷ batches_from [] (commands L total 0 batch.rest.now)) (passed_rows batch.rows.now held)
+                ∙ ap (λ bs. rows_of L p.count bytes ∷ batches_from [] (commands L total 0 bs)) left
                 ∙ sym (ap (λ bs. batches_from (rows_of L p.count bytes) (commands L total 0 bs)) e) ∙ p.batches;
-            closing = sym (ap (λ bs. closing_of (commands L total 0 bs)) e) ∙ p.closing;
-            within = omega (arith, passed_length, ap length e);
+            closing = ap (λ bs. closing_of (commands L total 0 bs)) left ∙ sym (ap (λ bs. closing_of (commands L total 0 bs)) e) ∙ p.closing;
+            within = omega (arith, passed_length, ap length e, ap length left);
           }
 
       -- 03 after rows closes their batch
-      pub found_last : (rows : Bor (List ℕ)) → 0 < length rest → get_or rest 0 0 ≡ 3 → length rest < length bytes → rows.now ≡ take (length bytes - length rest - 0) bytes
-          → Found L total (commands L total 0 bytes) (Batch rows) rest
-      found_last rows l z shorter held =
+      pub found_last : (batch : Batch) → 0 < length rest → get_or rest 0 0 ≡ 3 → 0 < length batch.rows.now → batch.rows.now ≡ take (length bytes - length rest) bytes → batch.rest.now ≡ rest
+          → Found L total (commands L total 0 bytes) (Ok (Some batch))
+      found_last batch l z some held left =
           let e : rest ≡ 3 ∷ after rest = first_is rest 3 l z in
+          let shorter : length rest < length bytes = omega (arith, ap length held, length-take (length bytes - length rest) bytes, some) in
           record {
             batches =
-                ap (λ rs. rs ∷ batches_from [] (commands L total 0 rest)) (passed_rows rows.now held)
-                ∙ ap (λ cs. rows_of L p.count bytes ∷ batches_from [] cs) (ap (commands L total 0) e)
-                ∙ sym (last_rows p.count bytes (ended total (after rest)) (some_part p.count (row_width L) (omega (arith, passed_length))))
+                ap (λ rs. rs ∷ batches_from [] (commands L total 0 batch.rest.now)) (passed_rows batch.rows.now held)
+                ∙ ap (λ bs. rows_of L p.count bytes ∷ batches_from [] (commands L total 0 bs)) (left ∙ e)
+                ∙ sym (last_rows p.count bytes (ended total (after rest)) (some_part p.count (row_width L) (omega (arith, passed_length, shorter))))
                 ∙ sym (ap (λ bs. batches_from (rows_of L p.count bytes) (commands L total 0 bs)) e)
                 ∙ p.batches;
-            closing = p.closing;
-            within = omega (arith, passed_length);
+            closing = ap (λ bs. closing_of (commands L total 0 bs)) left ∙ p.closing;
+            within = omega (arith, passed_length, ap length left);
           }
 
       -- 03 with no row before it ends the log
-      pub found_end : (coming : Coming) → 0 < length rest → get_or rest 0 0 ≡ 3 → length bytes ≤ length rest → coming ≡ Closed (ended total (after rest))
-          → Found L total (commands L total 0 bytes) coming (after rest)
-      found_end coming l z whole ec =
-          let e : rest ≡ 3 ∷ after rest = first_is rest 3 l z in
-          record {
-            batches =
-                ap (λ x. batches_left L total x (after rest)) ec
-                ∙ sym (last_none p.count bytes (ended total (after rest)) (no_part p.count (row_width L) (omega arith) (omega (arith, passed_length))))
-                ∙ sym (ap (λ bs. batches_from (rows_of L p.count bytes) (commands L total 0 bs)) e)
-                ∙ p.batches;
-            closing = ap (λ x. closing_left L total x (after rest)) ec ∙ sym (ap (λ bs. closing_of (commands L total 0 bs)) e) ∙ p.closing;
-            within = omega (arith, passed_length, ap length e);
-          }
+      module _ (l : 0 < length rest) (z : get_or rest 0 0 ≡ 3) (rows : List ℕ) (none : length rows ≡ 0) (held : rows ≡ take (length bytes - length rest) bytes) where
+        no_rows : p.count ≡ 0
+        no_rows = no_part p.count (row_width L) (omega arith) (omega (arith, passed_length, ap length held, none, length-take (length bytes - length rest) bytes))
 
-      pub found_more : (coming : Coming) → 0 < length rest → get_or rest 0 0 ≡ 3 → length bytes ≤ length rest → 0 < length (after rest)
-          → coming ≡ Closed (Fault (BadCommand (total - length rest + 1))) → Found L total (commands L total 0 bytes) coming (after rest)
-      found_more coming l z whole some ec =
-          let next : total - length rest + 1 ≡ total - length (after rest) = omega (arith, ap length (first_is rest 3 l z), passed_length) in
-          found_end coming l z whole (ec ∙ ap (λ n. Closed (Fault (BadCommand n))) next ∙ ap Closed (sym (too_long (after rest) some)))
+        batches_end : batches_from [] (commands L total 0 bytes) ≡ []
+        batches_end =
+            sym p.batches
+            ∙ ap (λ bs. batches_from (rows_of L p.count bytes) (commands L total 0 bs)) (first_is rest 3 l z)
+            ∙ last_none p.count bytes (ended total (after rest)) no_rows
+
+        closing_end : closing_of (commands L total 0 bytes) ≡ ended total (after rest)
+        closing_end = sym p.closing ∙ ap (λ bs. closing_of (commands L total 0 bs)) (first_is rest 3 l z)
+
+        pub found_end : length (after rest) ≡ 0 → Found L total (commands L total 0 bytes) (Ok None)
+        found_end h = record { batches = sym batches_end; closing = sym (closing_end ∙ ended_none (after rest) h); within = omega arith }
+
+        pub found_more : 0 < length (after rest) → Found L total (commands L total 0 bytes) (Err (BadCommand (total - length rest + 1)))
+        found_more some =
+            let next : total - length rest + 1 ≡ total - length (after rest) = omega (arith, ap length (first_is rest 3 l z), passed_length) in
+            record {
+              batches = sym batches_end;
+              closing = ap (λ n. let c : Closing = Err (BadCommand n) in c) next ∙ sym (closing_end ∙ too_long (after rest) some);
+              within = omega arith;
+            }

@@ -1,18 +1,14 @@
 -- What a take of a batch that fits comes to, and where the rows are changed one by one after it.
-use Rattle.std.proofs.Common.{◌≡◌, ℕ, ◌-◌, ◌≤◌, Bool, true, false, leb, List, [], ◌∷◌, ◌++◌, map, length, take, drop, Ok, Err, Result, sym, refl, ap, ◌∙◌, arith, le-leb}
+use Rattle.std.proofs.Common.{◌≡◌, ℕ, ◌-◌, ◌≤◌, Bool, true, false, leb, List, [], ◌∷◌, ◌++◌, map, length, take, drop, Some, None, Option, Ok, Err, Result, sym, refl, ap, ◌∙◌, arith, le-leb}
 use borrow.Rule.Slice.PartMut.{post_of}
 use Rattle.std.proofs.lemmas.List.{take_at, drop_at, length-map}
 use Rattle.sources.specs.declared.fault.SourceFault.{SourceFault}
-use Rattle.sources.specs.declared.source.Next.{Next}
-use Rattle.sources.specs.declared.source.Next.TheVariants.{Batch, End}
-use Rattle.sources.specs.declared.source.Closing.{Closing}
-use Rattle.sources.specs.declared.source.Closing.TheVariants.{End as ended, Fault as faulted}
 use Rattle.sources.specs.declared.source.TakeRefusal.{TakeRefusal}
-use Rattle.sources.specs.Meaning.{take_of, upcoming}
+use Rattle.sources.specs.Meaning.{Closing, take_of, upcoming}
 
 module _ {A : Type 0} (batches : List (List A)) (close : Closing) (memory : List A) where
   pub takes_first : (batch : List A) (left : List (List A)) → batches ≡ batch ∷ left → length batch ≤ length memory
-      → take_of batches close memory ≡ record { answer = Ok (Batch (length batch)); left = left; memory = batch ++ drop (length batch) memory }
+      → take_of batches close memory ≡ record { answer = Ok (Some (length batch)); left = left; memory = batch ++ drop (length batch) memory }
   takes_first batch left e h = rw (e, le-leb (length batch) (length memory) h)
 
 -- a memory after a write to its first n places
@@ -20,9 +16,9 @@ pub written : {A : Type 0} (n : ℕ) (part batch memory : List A) → part ≡ b
 written n part batch memory e = let z : n - 0 ≡ n = omega arith in rw (e, z)
 
 -- the memory after a take that answered so, with the rows that were written changed by f
-abbrev pub changed : {A : Type 0} → (A → A) → Result Next TakeRefusal → List A → List A
-changed f (Ok (Batch n)) memory = map f (take n memory) ++ drop n memory
-changed f (Ok End) memory = memory
+abbrev pub changed : {A : Type 0} → (A → A) → Result (Option ℕ) TakeRefusal → List A → List A
+changed f (Ok (Some n)) memory = map f (take n memory) ++ drop n memory
+changed f (Ok None) memory = memory
 changed f (Err refusal) memory = memory
 
 module _ {A : Type 0} (f : A → A) where
@@ -30,8 +26,8 @@ module _ {A : Type 0} (f : A → A) where
   pub takes_changed : (batches : List (List A)) (close : Closing) (memory : List A)
       → take_of (map (map f) batches) close memory
       ≡ (let took = take_of batches close memory in record { answer = took.answer; left = map (map f) took.left; memory = changed f took.answer took.memory })
-  takes_changed [] ended memory = refl
-  takes_changed [] (faulted fault) memory = refl
+  takes_changed [] (Ok end) memory = refl
+  takes_changed [] (Err fault) memory = refl
   takes_changed (batch ∷ left) close memory = go (leb (length batch) (length memory)) refl
     where
       go : (t : Bool) → leb (length batch) (length memory) ≡ t
@@ -43,10 +39,10 @@ module _ {A : Type 0} (f : A → A) where
   -- nor does that change what comes next
   pub upcoming_changed : (batches : List (List A)) (close : Closing) → upcoming batches close ≡ upcoming (map (map f) batches) close
   upcoming_changed [] close = refl
-  upcoming_changed (batch ∷ left) close = ap (λ n. let r : Result Next SourceFault = Ok (Batch n) in r) (sym (length-map batch f))
+  upcoming_changed (batch ∷ left) close = ap (λ n. let r : Result (Option ℕ) SourceFault = Ok (Some n) in r) (sym (length-map batch f))
 
   -- so a layer that changes the rows of each batch takes as its own meaning has it
-  pub passes : (batches : List (List A)) (close : Closing) (memory : List A) (answer : Result Next TakeRefusal) (left : List (List A)) (after : List A)
+  pub passes : (batches : List (List A)) (close : Closing) (memory : List A) (answer : Result (Option ℕ) TakeRefusal) (left : List (List A)) (after : List A)
       → (let took = take_of batches close memory in (answer ≡ took.answer) × (left ≡ took.left) × (after ≡ took.memory))
       → (let took = take_of (map (map f) batches) close memory in (answer ≡ took.answer) × (map (map f) left ≡ took.left) × (changed f answer after ≡ took.memory))
   passes batches close memory answer left after below =

@@ -1,5 +1,5 @@
 -- What is written is read again.
-use Rattle.std.proofs.Common.{◌≡◌, ℕ, zero, suc, ◌+◌, ◌*◌, ◌/◌, ◌%◌, ◌^◌, ◌<◌, ◌≤◌, true, eqb, List, [], ◌∷◌, ◌++◌, length, take, drop, sym, refl, ap, ◌∙◌, div-lt_iff_lt-mul, pow-suc, div-add-mod', arith, w8, SFits, eq-eqb}
+use Rattle.std.proofs.Common.{◌≡◌, ℕ, zero, suc, ◌+◌, ◌*◌, ◌/◌, ◌%◌, ◌^◌, ◌<◌, ◌≤◌, true, eqb, List, [], ◌∷◌, ◌++◌, length, take, drop, Ok, sym, refl, ap, ◌∙◌, div-lt_iff_lt-mul, pow-suc, div-add-mod', arith, w8, SFits, eq-eqb}
 use Rattle.std.specs.Int.Digits.{number_from_digits}
 use Rattle.std.specs.List.{flat_map, AllByRecursion}
 use Rattle.std.proofs.lemmas.Int.Digits.{number_push}
@@ -7,7 +7,6 @@ use Rattle.std.proofs.lemmas.List.{append-nil, append_assoc, length-append, take
 use Rattle.std.proofs.lemmas.Int.{to_z-of_z}
 use Rattle.rows.specs.declared.reading.Reading.{Reading}
 use Rattle.rows.specs.declared.row.Row.{Row}
-use Rattle.sources.specs.declared.source.Closing.TheVariants.{End}
 use Rattle.sources.specs.Layout.{in_bytes, Layout, ReadsBack}
 use Rattle.sources.specs.Log.{row, reading_of, row_of, commands, batches_from, closing_of, log_batches, log_closing}
 use Rattle.sources.specs.Written.{reading_bytes, row_bytes, batch_bytes, log_bytes, Fits}
@@ -62,7 +61,7 @@ module _ {K : Type 0} (L : Layout K) (back : (key : K) → L.fits key ≡ true �
 
   batches_read : (batches : List (List (Row K))) → AllByRecursion (AllByRecursion (Fits L)) batches
       → (batches_from [] (commands L total 0 (flat_map (batch_bytes L) batches ++ (3 ∷ []))) ≡ batches)
-      × (closing_of (commands L total 0 (flat_map (batch_bytes L) batches ++ (3 ∷ []))) ≡ End)
+      × (closing_of (commands L total 0 (flat_map (batch_bytes L) batches ++ (3 ∷ []))) ≡ Ok tt)
   batches_read [] f = (refl, refl)
   batches_read (rows ∷ batches) f =
       let tail = flat_map (batch_bytes L) batches ++ (3 ∷ []) in
@@ -75,7 +74,7 @@ module _ {K : Type 0} (L : Layout K) (back : (key : K) → L.fits key ≡ true �
       )
 
 pub written_means : {K : Type 0} (L : Layout K) → ((key : K) → L.fits key ≡ true → ReadsBack L key) → (batches : List (List (Row K))) → AllByRecursion (AllByRecursion (Fits L)) batches
-    → (log_batches L (log_bytes L batches) ≡ batches) × (log_closing L (log_bytes L batches) ≡ End)
+    → (log_batches L (log_bytes L batches) ≡ batches) × (log_closing L (log_bytes L batches) ≡ Ok tt)
 written_means L back batches f =
     let code : eqb L.code L.code ≡ true = eq-eqb L.code L.code refl in
     let read = batches_read L back (length (log_bytes L batches)) batches f in

@@ -1,12 +1,11 @@
 -- What a log means, from its format: bytes are read as commands, and commands as batches and a close.
-use Rattle.std.specs.Prelude.{ℕ, zero, suc, ◌+◌, ◌-◌, cond, List, [], ◌∷◌, ◌++◌, length, take, drop, ◌==◌, nat_le, slice_index}
+use Rattle.std.specs.Prelude.{ℕ, zero, suc, ◌+◌, ◌-◌, cond, List, [], ◌∷◌, ◌++◌, length, take, drop, Ok, Err, ◌==◌, nat_le, slice_index}
 use Rattle.std.specs.Int.{w8, cast_signed}
 use Rattle.rows.specs.declared.reading.Reading.{Reading}
 use Rattle.rows.specs.declared.row.Row.{Row}
 use Rattle.sources.specs.declared.fault.SourceFault.{SourceFault}
 use Rattle.sources.specs.declared.fault.SourceFault.TheVariants.{NoHeader, BadCommand, RunsOut, BadPresence}
-use Rattle.sources.specs.declared.source.Closing.{Closing}
-use Rattle.sources.specs.declared.source.Closing.TheVariants.{End, Fault}
+use Rattle.sources.specs.Meaning.{Closing}
 use Rattle.sources.specs.Layout.{field, Layout}
 
 -- The commands of a log in sequence, up to its end or to the first fault.
@@ -30,8 +29,8 @@ row_of L bytes = record { key = L.decoded (take L.width bytes); reading = readin
 
 -- what bytes after 03 come to
 abbrev pub ended : ℕ → List ℕ → Closing
-ended total [] = End
-ended total (byte ∷ bytes) = Fault (BadCommand (total - length (byte ∷ bytes)))
+ended total [] = Ok tt
+ended total (byte ∷ bytes) = Err (BadCommand (total - length (byte ∷ bytes)))
 
 -- The commands in the last bytes of a log of so many bytes in total, past the first few, which are operands. A command's place
 -- is the number of bytes before it. Of two faults at one place the one with the lower number counts: that the bytes run out
@@ -72,7 +71,7 @@ abbrev pub closing_of : {K : Type 0} → Commands K → Closing
 closing_of (row r more) = closing_of more
 closing_of (close more) = closing_of more
 closing_of (last closing) = closing
-closing_of (broken fault) = Fault fault
+closing_of (broken fault) = Err fault
 
 -- the meaning of a log
 abbrev pub log_batches : {K : Type 0} → Layout K → List ℕ → List (List (Row K))

@@ -1,10 +1,9 @@
 -- Rows in memory, cut every n rows.
-use Rattle.std.specs.Prelude.{◌≡◌, ℕ, zero, suc, ◌≤◌, max, List, [], ◌∷◌, length, take, drop}
+use Rattle.std.specs.Prelude.{◌≡◌, ℕ, zero, suc, ◌≤◌, max, List, [], ◌∷◌, length, take, drop, Ok}
 use Rattle.std.specs.List.{flat_map}
 use Rattle.rows.specs.declared.row.Row.{Row}
 use Rattle.sources.specs.declared.memory.Memory.{Memory}
-use Rattle.sources.specs.declared.source.Closing.{Closing}
-use Rattle.sources.specs.declared.source.Closing.TheVariants.{End as ended}
+use Rattle.sources.specs.Meaning.{Closing}
 
 -- the first m batches of the rows cut every n
 abbrev pub first_cut : {A : Type 0} → ℕ → ℕ → List A → List (List A)
@@ -33,4 +32,4 @@ abbrev pub batches_of : {K : Type 0} → Memory K → List (List (Row K))
 batches_of memory = cut memory.every memory.rows.now
 
 abbrev pub closing_of : {K : Type 0} → Memory K → Closing
-closing_of memory = ended
+closing_of memory = Ok tt

@@ -1,11 +1,10 @@
 -- The bytes of a list of batches: 00 with the kind of key, each row as 01, each batch closed by 02, then 03.
-use Rattle.std.specs.Prelude.{◌≡◌, ℕ, ◌^◌, ◌<◌, true, List, [], ◌∷◌, ◌++◌, FitsSigned}
+use Rattle.std.specs.Prelude.{◌≡◌, ℕ, ◌^◌, ◌<◌, true, List, [], ◌∷◌, ◌++◌, Ok, FitsSigned}
 use Rattle.std.specs.Int.{w8, cast_unsigned}
 use Rattle.std.specs.List.{flat_map, AllByRecursion}
 use Rattle.rows.specs.declared.reading.Reading.{Reading}
 use Rattle.rows.specs.declared.row.Row.{Row}
-use Rattle.sources.specs.declared.source.Closing.{Closing}
-use Rattle.sources.specs.declared.source.Closing.TheVariants.{End}
+use Rattle.sources.specs.Meaning.{Closing}
 use Rattle.sources.specs.Layout.{in_bytes, Layout}
 
 abbrev pub reading_bytes : Reading → List ℕ
@@ -30,4 +29,4 @@ pub record Fits {K : Type 0} (L : Layout K) (r : Row K) : Type 0 where
 -- Where bytes are those of some batches, a log of these bytes has these batches, and then ends.
 abbrev pub AsWritten : {K : Type 0} → Layout K → List ℕ → List (List (Row K)) → Closing → Type 0
 AsWritten {K} L bytes batches closing =
-    (written : List (List (Row K))) → AllByRecursion (AllByRecursion (Fits L)) written → bytes ≡ log_bytes L written → (batches ≡ written) × (closing ≡ End)
+    (written : List (List (Row K))) → AllByRecursion (AllByRecursion (Fits L)) written → bytes ≡ log_bytes L written → (batches ≡ written) × (closing ≡ Ok tt)

@@ -4,7 +4,6 @@ ghost use Rattle.sources.specs.Coming.{Apart, Found, rows_in};
 
 use crate::fault::SourceFault;
 use crate::kind::KeyKind;
-use crate::source::Closing;
 use rows::reading::Reading;
 use rows::row::Row;
 
@@ -20,13 +19,17 @@ const END: u8 = 3;
 // The bytes of a row beside its key: the command, the moment, the level and the receiver.
 const BESIDE_KEY: usize = 8;
 
-// What comes next in a log.
+// A batch in a log.
 #[derive(Clone, Copy)]
-pub(crate) enum Coming<'a> {
-    // the commands of a batch's rows, all of them read and found good
-    Batch(&'a [u8]),
-    Closed(Closing),
+pub(crate) struct Batch<'a> {
+    // the commands of its rows, all of them read and found good
+    pub(crate) rows: &'a [u8],
+    // the bytes after it
+    pub(crate) rest: &'a [u8],
 }
+
+// What comes next in a log: a batch, or none at the end; or a fault.
+pub(crate) type Coming<'a> = Result<Option<Batch<'a>>, SourceFault>;
 
 // The operands of a row, taken apart, and the bytes after them.
 #[derive(Clone, Copy)]
@@ -40,11 +43,10 @@ pub(crate) struct Operands<'a> {
 fn take_apart<F: KeyKind>(bytes: &[u8]) -> Option<Operands<'_>>
     ensures { MatchOption result (length bytes.now < F.KeyKind.layout.width + 7) (λ row. Apart F.KeyKind.layout bytes.now row) }
 {
-    let width = F::key_width();
-    if bytes.len() < width {
+    if bytes.len() < F::WIDTH {
         return None;
     }
-    let (key, after) = bytes.split_at(width);
+    let (key, after) = bytes.split_at(F::WIDTH);
     let [a, b, c, d, level, e, f, rest @ ..] = after else {
         return None;
     };
@@ -59,45 +61,34 @@ fn take_apart<F: KeyKind>(bytes: &[u8]) -> Option<Operands<'_>>
     })
 }
 
-fn fault<'a>(fault: SourceFault) -> Coming<'a>
-    ensures { result ≡ Coming.Closed (Closing.Fault fault) }
-{
-    Coming::Closed(Closing::Fault(fault))
-}
-
-// The first batch in the last bytes of a log of so many bytes in total, or how the log closes; and the bytes after that.
-pub(crate) fn next_batch<'a, F: KeyKind>(bytes: &'a [u8], total: usize) -> (Coming<'a>, &'a [u8])
+// What comes next in the last bytes of a log of so many bytes in total.
+pub(crate) fn next_batch<F: KeyKind>(bytes: &[u8], total: usize) -> Coming<'_>
     requires { length bytes.now ≤ total }
-    ensures { Found F.KeyKind.layout total (commands F.KeyKind.layout total 0 bytes.now) result.0 result.1.now }
+    ensures { Found F.KeyKind.layout total (commands F.KeyKind.layout total 0 bytes.now) result }
 {
     let mut rest = bytes;
     loop {
         let place = (total - rest.len()) as u64;
         let [command, after @ ..] = rest else {
-            return (fault(SourceFault::RunsOut(place)), rest);
+            return Err(SourceFault::RunsOut(place));
         };
+        let rows = &bytes[..bytes.len() - rest.len()];
         match *command {
-            ROW => match take_apart::<F>(after) {
-                Some(row) => {
-                    if !F::is_valid(row.key) {
-                        return (fault(SourceFault::BadPresence(place)), rest);
-                    }
-                    rest = row.rest;
+            ROW => {
+                let Some(row) = take_apart::<F>(after) else {
+                    return Err(SourceFault::RunsOut(place));
+                };
+                if !F::is_valid(row.key) {
+                    return Err(SourceFault::BadPresence(place));
                 }
-                None => return (fault(SourceFault::RunsOut(place)), rest),
-            },
-            CLOSE => return (Coming::Batch(&bytes[0..bytes.len() - rest.len()]), after),
-            END => {
-                if rest.len() < bytes.len() {
-                    // the end stays, to be met again with no row before it
-                    return (Coming::Batch(&bytes[0..bytes.len() - rest.len()]), rest);
-                }
-                if after.is_empty() {
-                    return (Coming::Closed(Closing::End), after);
-                }
-                return (fault(SourceFault::BadCommand(place + 1)), after);
+                rest = row.rest;
             }
-            _ => return (fault(SourceFault::BadCommand(place)), rest),
+            CLOSE => return Ok(Some(Batch { rows, rest: after })),
+            // the end stays, to be met again with no row before it
+            END if !rows.is_empty() => return Ok(Some(Batch { rows, rest })),
+            END if after.is_empty() => return Ok(None),
+            END => return Err(SourceFault::BadCommand(place + 1)),
+            _ => return Err(SourceFault::BadCommand(place)),
         }
     }
 }
@@ -106,7 +97,7 @@ pub(crate) fn next_batch<'a, F: KeyKind>(bytes: &'a [u8], total: usize) -> (Comi
 pub(crate) fn row_count<F: KeyKind>(rows: &[u8]) -> usize
     ensures { result ≡ length (rows_in F.KeyKind.layout rows.now) }
 {
-    rows.len() / (F::key_width() + BESIDE_KEY)
+    rows.len() / (F::WIDTH + BESIDE_KEY)
 }
 
 // Writes a batch's rows to the start of the memory.

@@ -2,7 +2,7 @@ ghost use Rattle.std.specs.Prelude.{◌≡◌, map};
 ghost use Rattle.sources.specs.Clock.{moved, moved_row, moved_batches};
 
 use crate::fault::SourceFault;
-use crate::source::{Next, Source, TakeRefusal};
+use crate::source::{Source, TakeRefusal};
 use rows::row::Row;
 
 #[cfg(test)]
@@ -56,15 +56,15 @@ impl<S: Source> Source for Clock<S> {
 
     ghost closing = { λ s. S.Source.closing s.inner };
 
-    fn size(&self) -> Result<Next, SourceFault> {
+    fn size(&self) -> Result<Option<usize>, SourceFault> {
         self.inner.size()
     }
 
     // Only the rows that were written are moved; what else the memory holds stays.
-    fn take(&mut self, memory: &mut [Row<S::Key>]) -> Result<Next, TakeRefusal> {
+    fn take(&mut self, memory: &mut [Row<S::Key>]) -> Result<Option<usize>, TakeRefusal> {
         let next = self.inner.take(memory)?;
-        if let Next::Batch(n) = next {
-            move_all(&mut memory[0..n], self.offset);
+        if let Some(n) = next {
+            move_all(&mut memory[..n], self.offset);
         }
         Ok(next)
     }

@@ -1,12 +1,12 @@
-ghost use Rattle.std.specs.Prelude.{◌≡◌, ◌<◌, true};
+ghost use Rattle.std.specs.Prelude.{◌≡◌, ℕ, ◌<◌, true};
 ghost use Rattle.sources.specs.Layout.{Layout, ReadsBack};
 ghost use Rattle.sources.specs.Keys.{frames, labels, good_presence, all_zero};
 ghost use Rattle.std.proofs.Common.{rules};
 
 use rows::key::{FrameKey, LabelKey};
 
-// A kind of key in a log: how wide its bytes are and how they are read. `layout` has the same for contracts, where a
-// constant has no name, and how a key is written.
+// A kind of key in a log: how wide its bytes are and how they are read. `layout` says so to contracts, and how a key is
+// written.
 pub trait KeyKind {
     type Key: Copy;
 
@@ -16,13 +16,11 @@ pub trait KeyKind {
     // how many bytes a key has
     const WIDTH: usize;
 
+    ghost CODE: { ℕ };
+
+    ghost WIDTH: { ℕ };
+
     ghost layout: { Layout Self.Key };
-
-    fn kind_code() -> u8
-        ensures { result ≡ layout.code };
-
-    fn key_width() -> usize
-        ensures { result ≡ layout.width };
 
     // Whether the bytes are a key's.
     fn is_valid(bytes: &[u8]) -> bool
@@ -31,6 +29,10 @@ pub trait KeyKind {
     // The key in bytes that are a key's.
     fn decode(bytes: &[u8]) -> Self::Key
         ensures { result ≡ layout.decoded bytes.now };
+
+    ghost code_is: { CODE ≡ layout.code };
+
+    ghost width_is: { WIDTH ≡ layout.width };
 
     ghost narrow: { layout.width < 65536 };
 
@@ -69,19 +71,19 @@ impl KeyKind for Frames {
 
     const WIDTH: usize = 7;
 
+    ghost CODE = { 1 };
+
+    ghost WIDTH = { 7 };
+
     ghost layout = { frames };
+
+    ghost code_is = { Prim.search rules };
+
+    ghost width_is = { Prim.search rules };
 
     ghost narrow = { Prim.search rules };
 
     ghost back = { Prim.search rules };
-
-    fn kind_code() -> u8 {
-        Self::CODE
-    }
-
-    fn key_width() -> usize {
-        Self::WIDTH
-    }
 
     fn is_valid(bytes: &[u8]) -> bool {
         if bytes.len() != Self::WIDTH {
@@ -117,19 +119,19 @@ impl KeyKind for Labels {
 
     const WIDTH: usize = 13;
 
+    ghost CODE = { 2 };
+
+    ghost WIDTH = { 13 };
+
     ghost layout = { labels };
+
+    ghost code_is = { Prim.search rules };
+
+    ghost width_is = { Prim.search rules };
 
     ghost narrow = { Prim.search rules };
 
     ghost back = { Prim.search rules };
-
-    fn kind_code() -> u8 {
-        Self::CODE
-    }
-
-    fn key_width() -> usize {
-        Self::WIDTH
-    }
 
     fn is_valid(bytes: &[u8]) -> bool {
         bytes.len() == Self::WIDTH && has_presence(bytes)

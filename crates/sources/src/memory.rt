@@ -1,11 +1,10 @@
 ghost use Rattle.std.specs.Prelude.{◌≡◌, List, Ok};
 ghost use Rattle.rows.specs.declared.row.Row.{Row as RowOf};
-ghost use Rattle.sources.specs.declared.source.Closing.TheVariants.{End as ended};
 ghost use Rattle.sources.specs.Meaning.{upcoming};
 ghost use Rattle.sources.specs.Memory.{cut, CutEvery, batches_of, closing_of};
 
 use crate::fault::SourceFault;
-use crate::source::{Next, Source, TakeRefusal};
+use crate::source::{Source, TakeRefusal};
 use rows::row::Row;
 
 #[cfg(test)]
@@ -24,21 +23,21 @@ impl<'a, K> Memory<'a, K> {
     // The rows cut every so many rows; 0 counts as 1.
     pub fn new(rows: &'a [Row<K>], every: usize) -> Memory<'a, K>
         ensures batches { batches_of result ≡ cut every rows.now }
-        ensures closing { closing_of result ≡ ended }
+        ensures closing { closing_of result ≡ Ok tt }
         ensures cuts { CutEvery every rows.now (batches_of result) }
         ensures only { (other : List (List (RowOf K))) → CutEvery every rows.now other → other ≡ batches_of result }
     {
         Memory { rows, every }
     }
 
-    // The size of the next batch, unless all rows are taken.
-    fn next(&self) -> Next
-        ensures { Ok result ≡ upcoming (batches_of self.now) ended }
+    // How many rows the next batch has; none where all rows are taken.
+    fn next(&self) -> Option<usize>
+        ensures { Ok result ≡ upcoming (batches_of self.now) (Ok tt) }
     {
         if self.rows.is_empty() {
-            return Next::End;
+            return None;
         }
-        Next::Batch(self.rows.len().min(self.every.max(1)))
+        Some(self.rows.len().min(self.every.max(1)))
     }
 }
 
@@ -49,20 +48,20 @@ impl<'a, K: Copy> Source for Memory<'a, K> {
 
     ghost closing = { closing_of };
 
-    fn size(&self) -> Result<Next, SourceFault> {
+    fn size(&self) -> Result<Option<usize>, SourceFault> {
         Ok(self.next())
     }
 
-    fn take(&mut self, memory: &mut [Row<K>]) -> Result<Next, TakeRefusal> {
-        let Next::Batch(n) = self.next() else {
-            return Ok(Next::End);
+    fn take(&mut self, memory: &mut [Row<K>]) -> Result<Option<usize>, TakeRefusal> {
+        let Some(n) = self.next() else {
+            return Ok(None);
         };
         if memory.len() < n {
             return Err(TakeRefusal::TooShort);
         }
         let (batch, left) = self.rows.split_at(n);
-        memory[0..n].copy_from_slice(batch);
+        memory[..n].copy_from_slice(batch);
         self.rows = left;
-        Ok(Next::Batch(n))
+        Ok(Some(n))
     }
 }

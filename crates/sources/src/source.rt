@@ -1,24 +1,13 @@
 ghost use Rattle.std.specs.Prelude.{◌≡◌, List};
 ghost use Rattle.rows.specs.declared.row.Row.{Row as RowOf};
-ghost use Rattle.sources.specs.declared.source.Closing.{Closing as ClosingOf};
-ghost use Rattle.sources.specs.Meaning.{upcoming, take_of, refusal_number};
+ghost use Rattle.sources.specs.declared.source.TakeRefusal.TheVariants.{Fault};
+ghost use Rattle.sources.specs.Meaning.{Closing as ClosingOf, upcoming, take_of, refusal_number};
 
 use crate::fault::SourceFault;
 use rows::row::Row;
 
-// What a source has next: a batch of so many rows, or the end.
-#[derive(Clone, Copy, PartialEq, Eq, Debug)]
-pub enum Next {
-    Batch(usize),
-    End,
-}
-
-// How a source's list of batches closes.
-#[derive(Clone, Copy, PartialEq, Eq, Debug)]
-pub enum Closing {
-    End,
-    Fault(SourceFault),
-}
+// How a source's list of batches closes: by the end, or by a fault.
+pub type Closing = Result<(), SourceFault>;
 
 // Why nothing was taken.
 #[derive(Clone, Copy, PartialEq, Eq, Debug)]
@@ -39,6 +28,14 @@ impl TakeRefusal {
     }
 }
 
+impl From<SourceFault> for TakeRefusal {
+    ghost from_gives = { λ e r. r ≡ Fault e };
+
+    fn from(e: SourceFault) -> TakeRefusal {
+        TakeRefusal::Fault(e)
+    }
+}
+
 // A source means a finite list of batches of rows, some perhaps empty, and how that list closes: by the end, or by a fault
 // that stays.
 pub trait Source {
@@ -48,12 +45,13 @@ pub trait Source {
 
     ghost closing: { Self → ClosingOf };
 
-    // What comes next.
-    fn size(&self) -> Result<Next, SourceFault>
+    // How many rows the next batch has; none at the end.
+    fn size(&self) -> Result<Option<usize>, SourceFault>
         ensures { result ≡ upcoming (batches self.now) (closing self.now) };
 
-    // Writes the next batch to the start of the memory and removes it from the list.
-    fn take(&mut self, memory: &mut [Row<Self::Key>]) -> Result<Next, TakeRefusal>
+    // Writes the next batch to the start of the memory, removes it from the list, and answers how many rows it had; none
+    // at the end.
+    fn take(&mut self, memory: &mut [Row<Self::Key>]) -> Result<Option<usize>, TakeRefusal>
         ensures answer { result ≡ (take_of (batches self.old) (closing self.old) memory.old).answer }
         ensures left { batches self.new ≡ (take_of (batches self.old) (closing self.old) memory.old).left }
         ensures closes { closing self.new ≡ closing self.old }

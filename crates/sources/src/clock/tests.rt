@@ -1,6 +1,5 @@
-ghost use Rattle.std.specs.Prelude.{[]};
+ghost use Rattle.std.specs.Prelude.{[], Err};
 ghost use Rattle.sources.specs.declared.fault.SourceFault.TheVariants.{RunsOut};
-ghost use Rattle.sources.specs.declared.source.Closing.TheVariants.{Fault};
 
 use super::*;
 use crate::memory::Memory;
@@ -38,11 +37,11 @@ fn moves_what_was_written(rt: HostRuntime) -> Result<(), Fail> {
     let rows = [row(0), row(1000), row(2000)];
     let mut clock = Clock::new(Memory::new(&rows, 2), -500);
     let mut memory = [row(7), row(8), row(9)];
-    assert_eq!(rt; clock.size()?, Next::Batch(2));
-    assert_eq!(rt; clock.take(&mut memory)?, Next::Batch(2));
+    assert_eq!(rt; clock.size()?, Some(2));
+    assert_eq!(rt; clock.take(&mut memory)?, Some(2));
     assert_eq!(rt; memory, [row(0), row(500), row(9)]);
     let mut inner = clock.into_inner();
-    assert_eq!(rt; inner.take(&mut memory)?, Next::Batch(1));
+    assert_eq!(rt; inner.take(&mut memory)?, Some(1));
     assert_eq!(rt; memory, [row(2000), row(500), row(9)]);
     Ok(())
 }
@@ -54,7 +53,7 @@ fn passes_refusals(rt: HostRuntime) -> Result<(), Fail> {
     let mut memory = [row(9)];
     assert_eq!(rt; clock.take(&mut memory), Err(TakeRefusal::TooShort));
     assert_eq!(rt; memory, [row(9)]);
-    assert_eq!(rt; clock.size()?, Next::Batch(2));
+    assert_eq!(rt; clock.size()?, Some(2));
     Ok(())
 }
 
@@ -79,13 +78,13 @@ impl Source for Spoilt {
 
     ghost batches = { λ _. [] };
 
-    ghost closing = { λ _. Fault (RunsOut 3) };
+    ghost closing = { λ _. Err (RunsOut 3) };
 
-    fn size(&self) -> Result<Next, SourceFault> {
+    fn size(&self) -> Result<Option<usize>, SourceFault> {
         Err(SourceFault::RunsOut(3))
     }
 
-    fn take(&mut self, _memory: &mut [Row<u8>]) -> Result<Next, TakeRefusal> {
+    fn take(&mut self, _memory: &mut [Row<u8>]) -> Result<Option<usize>, TakeRefusal> {
         Err(TakeRefusal::Fault(SourceFault::RunsOut(3)))
     }
 }

@@ -19,10 +19,10 @@ fn check_sizes(
 ) -> Result<(), Fail> {
     let mut source = Memory::new(rows, every);
     for size in sizes {
-        assert_eq!(rt; source.size()?, Next::Batch(*size));
-        assert_eq!(rt; source.take(memory)?, Next::Batch(*size));
+        assert_eq!(rt; source.size()?, Some(*size));
+        assert_eq!(rt; source.take(memory)?, Some(*size));
     }
-    assert_eq!(rt; source.take(memory)?, Next::End);
+    assert_eq!(rt; source.take(memory)?, None);
     Ok(())
 }
 
@@ -45,11 +45,11 @@ fn rows_in_sequence(rt: HostRuntime) -> Result<(), Fail> {
     let rows = [row(0), row(1), row(2)];
     let mut source = Memory::new(&rows, 2);
     let mut memory = [row(7), row(8), row(9)];
-    assert_eq!(rt; source.take(&mut memory)?, Next::Batch(2));
+    assert_eq!(rt; source.take(&mut memory)?, Some(2));
     assert_eq!(rt; memory, [row(0), row(1), row(9)]);
-    assert_eq!(rt; source.take(&mut memory)?, Next::Batch(1));
+    assert_eq!(rt; source.take(&mut memory)?, Some(1));
     assert_eq!(rt; memory, [row(2), row(1), row(9)]);
-    assert_eq!(rt; source.take(&mut memory)?, Next::End);
+    assert_eq!(rt; source.take(&mut memory)?, None);
     assert_eq!(rt; memory, [row(2), row(1), row(9)]);
     Ok(())
 }
@@ -63,6 +63,6 @@ fn too_short(rt: HostRuntime) -> Result<(), Fail> {
     assert_eq!(rt; refusal, Err(TakeRefusal::TooShort));
     assert_eq!(rt; TakeRefusal::TooShort.number(), 10);
     assert_eq!(rt; memory, [row(9)]);
-    assert_eq!(rt; source.size()?, Next::Batch(2));
+    assert_eq!(rt; source.size()?, Some(2));
     Ok(())
 }

@@ -9,11 +9,12 @@ pub returns : goal.returns
 returns g c =
     let bytes = c.args.bytes.now in
     let after = c.split_at.result.1.now in
-    let back : after ≡ drop g.F.KeyKind.layout.width bytes = rw c.key_width-width.ensures at c.split_at.ensures.back in
+    let width = c.WIDTH-2.ensures ∙ g.met.F.KeyKind.width_is in
+    let back : after ≡ drop g.F.KeyKind.layout.width bytes = rw width at c.split_at.ensures.back in
     let long : 7 ≤ length after = search rules in
     record {
-      whole = omega (arith, c.key_width-width.ensures, c.split_at.ensures.back_len, long);
-      key = rw c.key_width-width.ensures at c.split_at.ensures.front;
+      whole = omega (arith, width, c.split_at.ensures.back_len, long);
+      key = rw width at c.split_at.ensures.front;
       reading =
           c.new.ensures
           ∙ reading_is after _ _ _ long c.from_be_bytes.ensures
