@@ -1,22 +1,14 @@
-ghost use Rattle.std.specs.Prelude.{◌≡◌};
-ghost use Rattle.rows.specs.Order.{rank as rank_of};
-
 use rows::order::KeyOrder;
-use std::cmp::Ordering;
 use std::fmt;
 
 // How often a law was asked, and how often it was kept.
-#[derive(Clone, Copy)]
+#[derive(Clone, Copy, Default)]
 pub struct Tally {
     asked: u32,
     kept: u32,
 }
 
 impl Tally {
-    fn new() -> Tally {
-        Tally { asked: 0, kept: 0 }
-    }
-
     fn note(&mut self, kept: bool) {
         self.asked = self.asked.saturating_add(1);
         if kept {
@@ -34,7 +26,7 @@ impl fmt::Display for Tally {
 }
 
 // How an order keeps each of its laws.
-#[derive(Clone, Copy)]
+#[derive(Clone, Copy, Default)]
 pub struct LawTallies {
     turns_round: Tally,
     passes_on: Tally,
@@ -58,70 +50,43 @@ impl fmt::Display for LawTallies {
     }
 }
 
-// Before, same and after rise in this sequence.
-fn rank(answer: Ordering) -> u8
-    ensures { result ≡ rank_of answer }
-{
-    match answer {
-        Ordering::Less => 0,
-        Ordering::Equal => 1,
-        Ordering::Greater => 2,
-    }
-}
-
-fn is_after(answer: Ordering) -> bool {
-    answer == Ordering::Greater
-}
-
 fn turns_round<O: KeyOrder>(order: &O, a: &O::Key, b: &O::Key) -> bool {
     order.compare_within(b, a) == order.compare_within(a, b).reverse()
 }
 
 fn passes_on<O: KeyOrder>(order: &O, a: &O::Key, b: &O::Key, c: &O::Key) -> bool {
-    is_after(order.compare_within(a, b))
-        || is_after(order.compare_within(b, c))
-        || !is_after(order.compare_within(a, c))
+    order.compare_within(a, b).is_gt()
+        || order.compare_within(b, c).is_gt()
+        || !order.compare_within(a, c).is_gt()
 }
 
-// of streamed keys a and c and a buffered key b
+// Less, Equal and Greater rise in this sequence; of streamed keys a and c and a buffered key b
 fn rises_streamed<O: KeyOrder>(order: &O, a: &O::Key, c: &O::Key, b: &O::Key) -> bool {
-    is_after(order.compare_within(a, c))
-        || rank(order.compare_across(a, b)) <= rank(order.compare_across(c, b))
+    order.compare_within(a, c).is_gt() || order.compare_across(a, b) <= order.compare_across(c, b)
 }
 
 // of a streamed key a and buffered keys b and c
 fn falls_buffered<O: KeyOrder>(order: &O, a: &O::Key, b: &O::Key, c: &O::Key) -> bool {
-    is_after(order.compare_within(b, c))
-        || rank(order.compare_across(a, c)) <= rank(order.compare_across(a, b))
+    order.compare_within(b, c).is_gt() || order.compare_across(a, c) <= order.compare_across(a, b)
 }
 
 fn same_is_same<O: KeyOrder>(order: &O, a: &O::Key, b: &O::Key) -> bool {
-    order.compare_across(a, b) != Ordering::Equal || order.compare_within(a, b) == Ordering::Equal
+    order.compare_across(a, b).is_ne() || order.compare_within(a, b).is_eq()
 }
 
 // Asks each law of every pair or triple of keys.
 pub fn ask_all<O: KeyOrder>(order: &O, keys: &[O::Key]) -> LawTallies {
-    let mut turns = Tally::new();
-    let mut passes = Tally::new();
-    let mut rises = Tally::new();
-    let mut falls = Tally::new();
-    let mut same = Tally::new();
+    let mut laws = LawTallies::default();
     for a in keys {
         for b in keys {
-            turns.note(turns_round(order, a, b));
-            same.note(same_is_same(order, a, b));
+            laws.turns_round.note(turns_round(order, a, b));
+            laws.same_is_same.note(same_is_same(order, a, b));
             for c in keys {
-                passes.note(passes_on(order, a, b, c));
-                rises.note(rises_streamed(order, a, b, c));
-                falls.note(falls_buffered(order, a, b, c));
+                laws.passes_on.note(passes_on(order, a, b, c));
+                laws.rises_streamed.note(rises_streamed(order, a, b, c));
+                laws.falls_buffered.note(falls_buffered(order, a, b, c));
             }
         }
     }
-    LawTallies {
-        turns_round: turns,
-        passes_on: passes,
-        rises_streamed: rises,
-        falls_buffered: falls,
-        same_is_same: same,
-    }
+    laws
 }

@@ -67,64 +67,53 @@ const LABEL_KEYS: [LabelKey; 5] = [
     },
 ];
 
-fn direction_name(direction: Direction) -> &'static str {
-    match direction {
-        Direction::Up => "up",
-        Direction::Down => "down",
+// The answers of a comparison for every pair of keys.
+fn show_answers<K, F: Fn(&K, &K) -> Ordering>(
+    rt: &impl Print,
+    name: &str,
+    keys: &[K],
+    compare: F,
+) -> io::Result<()>
+    requires { F.IsAlwaysCallable compare }
+{
+    rt.print(name)?;
+    for a in keys {
+        rt.print(" ")?;
+        for b in keys {
+            rt.print(Answer(compare(a, b)))?;
+        }
     }
+    Ok(())
 }
 
-fn place_name(place: MissingPlace) -> &'static str {
-    match place {
-        MissingPlace::First => "first",
-        MissingPlace::Last => "last",
-    }
-}
-
-fn equals_name(equals: MissingEquals) -> &'static str {
-    match equals {
-        MissingEquals::Missing => "missing",
-        MissingEquals::Nothing => "nothing",
-    }
-}
-
-// The answers of an order for every pair of keys, a line within and a line across, and how it keeps its laws.
+// How an order answers within, a line, and across, another, and how it keeps its laws.
 fn show<O: KeyOrder>(rt: &impl Print, order: &O, keys: &[O::Key]) -> io::Result<()> {
-    rt.print("within")?;
-    for a in keys {
-        rt.print(" ")?;
-        for b in keys {
-            rt.print(Answer(order.compare_within(a, b)))?;
-        }
-    }
-    rt.print("\nacross")?;
-    for a in keys {
-        rt.print(" ")?;
-        for b in keys {
-            rt.print(Answer(order.compare_across(a, b)))?;
-        }
-    }
+    show_answers(rt, "within", keys, |a, b| order.compare_within(a, b))?;
+    show_answers(rt, "\nacross", keys, |a, b| order.compare_across(a, b))?;
     let laws = ask_all(order, keys);
     println!(rt; "\n{laws}")
 }
 
 fn show_frame_orders(rt: &impl Print, number: Choices) -> io::Result<()> {
-    let name = direction_name(number.direction);
-    let place = place_name(number.missing);
-    let equals = equals_name(number.equals);
+    let Choices {
+        direction,
+        missing,
+        equals,
+    } = number;
     for node in DIRECTIONS {
-        let node_name = direction_name(node);
-        println!(rt; "node {node_name}, frame {name}, missing {place}, missing equals {equals}")?;
+        println!(rt; "node {node}, frame {direction}, missing {missing}, missing equals {equals}")?;
         show(rt, &FrameOrder::new(node, number), &FRAME_KEYS)?;
     }
     Ok(())
 }
 
 fn show_label_order(rt: &impl Print, label: Choices) -> io::Result<()> {
-    let name = direction_name(label.direction);
-    let place = place_name(label.missing);
-    let equals = equals_name(label.equals);
-    println!(rt; "label {name}, missing {place}, missing equals {equals}")?;
+    let Choices {
+        direction,
+        missing,
+        equals,
+    } = label;
+    println!(rt; "label {direction}, missing {missing}, missing equals {equals}")?;
     show(rt, &LabelOrder::new(label), &LABEL_KEYS)
 }
 

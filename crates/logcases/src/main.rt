@@ -2,12 +2,11 @@
 // has to say, in the file stdout, was worked out from the log format.
 #![tactic(auto)]
 
-use rows::key::{FrameKey, LabelKey};
-use rows::reading::Reading;
+use rows::key::FrameKey;
 use rows::row::Row;
 use sources::kind::{Frames, KeyKind, Labels};
 use sources::log::Log;
-use sources::source::{Next, Source, TakeRefusal};
+use sources::source::{Source, TakeRefusal};
 use std::fmt::Debug;
 use std::io;
 
@@ -42,8 +41,8 @@ const VALUES: [u8; 5] = [0, 1, 2, 3, 255];
 fn say<S: Source>(rt: &HostRuntime, source: &mut S, memory: &mut [Row<S::Key>]) -> io::Result<()> {
     for _ in 0..LIMIT {
         match source.take(memory) {
-            Ok(Next::Batch(n)) => print!(rt; " batch of {n},")?,
-            Ok(Next::End) => return println!(rt; " end"),
+            Ok(Some(n)) => print!(rt; " batch of {n},")?,
+            Ok(None) => return println!(rt; " end"),
             Err(TakeRefusal::TooShort) => return println!(rt; " too short"),
             Err(TakeRefusal::Fault(fault)) => {
                 let number = fault.number();
@@ -64,25 +63,24 @@ fn say_cuts<F: KeyKind + Copy>(
 ) -> io::Result<()> {
     for n in 0..=bytes.len() {
         print!(rt; "{n} bytes:")?;
-        say(rt, &mut Log::new(&bytes[0..n], kind), memory)?;
+        say(rt, &mut Log::new(&bytes[..n], kind), memory)?;
     }
     Ok(())
 }
 
-fn say_changes<F: KeyKind + Copy>(
+fn say_changes<F: KeyKind + Copy, const N: usize>(
     rt: &HostRuntime,
-    bytes: &mut [u8],
+    bytes: &[u8; N],
     kind: F,
     memory: &mut [Row<F::Key>],
 ) -> io::Result<()> {
-    for i in 0..bytes.len() {
-        let was = bytes[i];
+    for i in 0..N {
+        let mut changed = *bytes;
         for value in VALUES {
-            bytes[i] = value;
+            changed[i] = value;
             print!(rt; "byte {i} is {value}:")?;
-            say(rt, &mut Log::new(bytes, kind), memory)?;
+            say(rt, &mut Log::new(&changed, kind), memory)?;
         }
-        bytes[i] = was;
     }
     Ok(())
 }
@@ -96,7 +94,7 @@ where
     S::Key: Debug,
 {
     for _ in 0..LIMIT {
-        let Ok(Next::Batch(n)) = source.take(memory) else {
+        let Ok(Some(n)) = source.take(memory) else {
             return Ok(());
         };
         for row in memory.iter().take(n) {
@@ -120,7 +118,7 @@ fn say_named(
 fn say_short(rt: &HostRuntime, memory: &mut [Row<FrameKey>; 4]) -> io::Result<()> {
     let mut log = Log::new(&FRAMES, Frames);
     print!(rt; "one row of memory:")?;
-    say(rt, &mut log, &mut memory[0..1])?;
+    say(rt, &mut log, &mut memory[..1])?;
     print!(rt; "four rows, the same log:")?;
     say(rt, &mut log, memory)?;
     print!(rt; "once more:")?;
@@ -136,34 +134,28 @@ fn say_few(rt: &HostRuntime, memory: &mut [Row<FrameKey>]) -> io::Result<()> {
     say_named(rt, "cut in a bad key", &[0, 1, 1, 0, 7, 9], memory)
 }
 
-fn say_frames(rt: &HostRuntime) -> io::Result<()> {
-    let key = FrameKey {
-        node: 0,
-        number: None,
-    };
-    let reading = Reading::new(0, 0, 0);
-    let mut memory = [Row { key, reading }; 4];
-    println!(rt; "frame keys")?;
-    say_rows(rt, &mut Log::new(&FRAMES, Frames), &mut memory)?;
-    say_cuts(rt, &FRAMES, Frames, &mut memory)?;
-    let mut bytes = FRAMES;
-    say_changes(rt, &mut bytes, Frames, &mut memory)?;
-    say_short(rt, &mut memory)?;
-    say_few(rt, &mut memory)
-}
-
-fn say_labels(rt: &HostRuntime) -> io::Result<()> {
-    let key = LabelKey { label: None };
-    let reading = Reading::new(0, 0, 0);
-    let mut memory = [Row { key, reading }; 4];
-    println!(rt; "label keys")?;
-    say_rows(rt, &mut Log::new(&LABELS, Labels), &mut memory)?;
-    say_cuts(rt, &LABELS, Labels, &mut memory)?;
-    let mut bytes = LABELS;
-    say_changes(rt, &mut bytes, Labels, &mut memory)
+// The rows of a log, and what is said of each cut and each change of it.
+fn say_log<F: KeyKind + Copy, const N: usize>(
+    rt: &HostRuntime,
+    bytes: &[u8; N],
+    kind: F,
+    memory: &mut [Row<F::Key>],
+) -> io::Result<()>
+where
+    F::Key: Debug,
+{
+    say_rows(rt, &mut Log::new(bytes, kind), memory)?;
+    say_cuts(rt, bytes, kind, memory)?;
+    say_changes(rt, bytes, kind, memory)
 }
 
 fn main(rt: HostRuntime) -> io::Result<()> {
-    say_frames(&rt)?;
-    say_labels(&rt)
+    let mut memory = [Row::default(); 4];
+    println!(rt; "frame keys")?;
+    say_log(&rt, &FRAMES, Frames, &mut memory)?;
+    say_short(&rt, &mut memory)?;
+    say_few(&rt, &mut memory)?;
+    let mut memory = [Row::default(); 4];
+    println!(rt; "label keys")?;
+    say_log(&rt, &LABELS, Labels, &mut memory)
 }
