@@ -5,6 +5,7 @@ mod dash;
 mod hex;
 pub mod key;
 pub mod kind;
+pub mod name;
 pub mod order;
 pub mod reading;
 pub mod record;
