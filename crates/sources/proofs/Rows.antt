@@ -18,11 +18,6 @@ inner_part i k n xs h =
     let inside : k ≤ n - i = omega arith in
     ap (λ m. take k (drop i (take m xs))) parts ∙ ap (take k) (drop-take i (n - i) xs) ∙ take-take k (n - i) (drop i xs) inside
 
--- one of several equal parts
-pub one_part : (count width all : ℕ) → 0 < count → count * width ≤ all → width ≤ all
-one_part zero width all h k = absurd (omega arith)
-one_part (suc n) width all h k = omega (arith, suc-mul n width)
-
 pub some_part : (count width : ℕ) → 0 < count * width → 0 < count
 some_part zero width h = absurd (omega (arith, zero-mul width))
 some_part (suc n) width h = omega arith
@@ -131,9 +126,6 @@ module _ {K : Type 0} (L : Layout K) (rows : List ℕ) where
   pub record Writing (i : ℕ) (memory : List (Row K)) (rest : List ℕ) : Type 0 where
     pub behind : rest ≡ drop (i * row_width L) rows
     pub written : take i memory ≡ rows_of L i rows
-
-  pub writing_none : (memory : List (Row K)) → Writing 0 memory rows
-  writing_none memory = record { behind = ap (λ m. drop m rows) (sym (zero-mul (row_width L))); written = refl }
 
   module _ (i : ℕ) (memory : List (Row K)) (rest : List ℕ) (w : Writing i memory rest) (count : ℕ) (before : List (Row K)) (e : count ≡ length (rows_in L rows)) (t : i < length (take count before)) where
     more : i < length rows / row_width L

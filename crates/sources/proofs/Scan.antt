@@ -1,16 +1,15 @@
 -- A scan over a log's commands, row by row, up to the command that closes the batch or the log.
-use Rattle.std.proofs.Common.{◌≡◌, ℕ, zero, suc, ◌+◌, ◌-◌, ◌*◌, ◌/◌, ◌<◌, ◌≤◌, Bool, true, false, leb, List, [], ◌∷◌, ◌++◌, length, get_or, take, drop, Some, None, Ok, Err, sym, refl, ap, ◌∙◌, ⊎_elim, suc-mul, zero-mul, mul-div_cancel, arith, eq-eqb, ne_eqb, le-leb}
-use Rattle.std.proofs.lemmas.Bool.{lt-leb, cases_eq}
+use Rattle.std.proofs.Common.{◌≡◌, ℕ, zero, suc, ◌+◌, ◌-◌, ◌*◌, ◌/◌, ◌<◌, ◌≤◌, Bool, true, false, leb, List, [], ◌∷◌, ◌++◌, length, get_or, take, drop, Some, None, Ok, Err, sym, refl, ap, ◌∙◌, ⊎_elim, suc-mul, mul-div_cancel, arith, le-leb}
+use Rattle.std.proofs.lemmas.Bool.{cases_eq}
 use Rattle.std.proofs.Math.Nat.{mul-le-mul_right, zero-div}
 use Rattle.std.proofs.lemmas.List.{drop-drop, length-drop, length-take, length-take-le, take_rest}
 use Rattle.sources.specs.declared.batch.Batch.{Batch}
 use Rattle.sources.specs.declared.batch.Operands.{Operands}
-use Rattle.sources.specs.declared.fault.SourceFault.{SourceFault}
-use Rattle.sources.specs.declared.fault.SourceFault.TheVariants.{BadCommand, RunsOut, BadPresence}
+use Rattle.sources.specs.declared.fault.SourceFault.TheVariants.{BadCommand}
 use Rattle.sources.specs.Meaning.{Closing}
 use Rattle.sources.specs.Layout.{Layout, key_in}
-use Rattle.sources.specs.Log.{Commands, row, last, broken, row_of, ended, commands, commands_of, batches_from, closing_of}
-use Rattle.sources.specs.Coming.{Coming, Apart, KeysAreValid, row_width, rows_of, rows_in, Found}
+use Rattle.sources.specs.Log.{row, last, row_of, ended, commands, batches_from, closing_of}
+use Rattle.sources.specs.Coming.{Apart, KeysAreValid, row_width, rows_of, rows_in, Found}
 use Rattle.sources.proofs.Rows.{inner_part, some_part, no_part, rows_of_more, rows_in_front}
 
 -- what follows the first byte, as the checker reads a pattern's rest
@@ -20,16 +19,6 @@ after bytes = take (length bytes - 1) (drop 1 bytes)
 first_is : (bytes : List ℕ) (command : ℕ) → 0 < length bytes → get_or bytes 0 0 ≡ command → bytes ≡ command ∷ after bytes
 first_is [] command l z = absurd (omega arith)
 first_is (b ∷ bytes) command l z = ap (λ x. x ∷ bytes) z ∙ ap (λ bs. command ∷ bs) (sym (take_rest (b ∷ bytes) 1))
-
--- the commands after a log's first
-pub after_header : {K : Type 0} (L : Layout K) (bytes rest : List ℕ) → 2 ≤ length bytes → get_or bytes 0 0 ≡ 0 → get_or bytes 1 0 ≡ L.code → rest ≡ drop 2 bytes
-    → commands L (length bytes) 0 rest ≡ commands_of L bytes
-after_header L [] rest h a b e = absurd (omega arith)
-after_header L (x ∷ []) rest h a b e = absurd (omega arith)
-after_header L (x ∷ code ∷ bytes) rest h a b e = rw (a, eq-eqb code L.code b, e)
-
-pub found_same : {K : Type 0} (L : Layout K) (total : ℕ) (all others : Commands K) (coming : Coming) → all ≡ others → Found L total all coming → Found L total others coming
-found_same L total all others coming e f = record { batches = f.batches ∙ ap (batches_from []) e; closing = f.closing ∙ ap closing_of e; within = f.within; valid = f.valid }
 
 -- bytes in which a key is read are valid
 pub valid_where_read : {K : Type 0} (L : Layout K) (bytes : List ℕ) (key : K) → Some key ≡ key_in L bytes → L.valid bytes ≡ true
@@ -64,22 +53,6 @@ module _ {K : Type 0} (L : Layout K) (total : ℕ) where
       let is : leb (L.width + 7) (length bytes) ≡ true = le-leb (L.width + 7) (length bytes) h in
       rw (is, v) (ap (row (row_of L bytes)) (commands_past (L.width + 7) bytes h))
 
-  row_short : (rest bytes : List ℕ) → rest ≡ 1 ∷ bytes → length bytes < L.width + 7 → commands L total 0 rest ≡ broken (RunsOut (total - length rest))
-  row_short rest bytes e h =
-      let is : leb (L.width + 7) (length bytes) ≡ false = lt-leb (L.width + 7) (length bytes) h in
-      rw (e, is)
-
-  row_bad : (rest bytes : List ℕ) → rest ≡ 1 ∷ bytes → L.width + 7 ≤ length bytes → L.valid (take L.width bytes) ≡ false
-      → commands L total 0 rest ≡ broken (BadPresence (total - length rest))
-  row_bad rest bytes e h v =
-      let is : leb (L.width + 7) (length bytes) ≡ true = le-leb (L.width + 7) (length bytes) h in
-      rw (e, is, v)
-
-  unknown : (rest : List ℕ) → 0 < length rest → (get_or rest 0 0 ≡ 1 → ⊥) → (get_or rest 0 0 ≡ 2 → ⊥) → (get_or rest 0 0 ≡ 3 → ⊥)
-      → commands L total 0 rest ≡ broken (BadCommand (total - length rest))
-  unknown [] h a b c = absurd (omega arith)
-  unknown (command ∷ bytes) h a b c = rw (ne_eqb command 1 a, ne_eqb command 2 b, ne_eqb command 3 c)
-
   -- whether 03 closes a batch
   last_rows : (n : ℕ) (bytes : List ℕ) (closing : Closing) → 0 < n → batches_from (rows_of L n bytes) (last closing) ≡ rows_of L n bytes ∷ []
   last_rows zero bytes closing h = absurd (omega arith)
@@ -89,23 +62,9 @@ module _ {K : Type 0} (L : Layout K) (total : ℕ) where
   last_none zero bytes closing h = refl
   last_none (suc n) bytes closing h = absurd (omega arith)
 
-  ended_none : (bytes : List ℕ) → length bytes ≡ 0 → ended total bytes ≡ Ok tt
-  ended_none [] h = refl
-  ended_none (byte ∷ bytes) h = absurd (omega arith)
-
   too_long : (bytes : List ℕ) → 0 < length bytes → ended total bytes ≡ Err (BadCommand (total - length bytes))
   too_long [] h = absurd (omega arith)
   too_long (byte ∷ bytes) h = refl
-
-  pub passed_none : (bytes : List ℕ) → Passed L total bytes bytes
-  passed_none bytes = record {
-    count = 0;
-    inside = omega (arith, zero-mul (row_width L));
-    behind = ap (λ m. drop m bytes) (sym (zero-mul (row_width L)));
-    batches = refl;
-    closing = refl;
-    valid = λ n h. absurd (omega arith);
-  }
 
   module _ (bytes rest : List ℕ) (p : Passed L total bytes rest) where
     pub passed_length : length rest + p.count * row_width L ≡ length bytes
@@ -139,9 +98,6 @@ module _ {K : Type 0} (L : Layout K) (total : ℕ) where
           valid = λ m h. ⊎_elim (λ (e : m ≡ n). rw e last) (λ (ne : m ≡ n → ⊥). p.valid m (omega (arith, ne))) (cases_eq m n);
         }
 
-    pub passed_less : 0 < length rest → (r : Operands) → Apart L (after rest) r → length r.rest.now < length rest
-    passed_less l r a = omega (arith, ap length a.rest, length-drop (L.width + 7) (after rest), ap length (take_rest rest 1), length-drop 1 rest)
-
     -- the rows passed, from the bytes that hold them
     passed_rows : (held : List ℕ) → held ≡ take (length bytes - length rest) bytes → rows_in L held ≡ rows_of L p.count bytes
     passed_rows held e =
@@ -162,25 +118,6 @@ module _ {K : Type 0} (L : Layout K) (total : ℕ) where
         ∙ p.valid n there
 
     module _ (fits : length bytes ≤ total) where
-      found_fault : (fault : SourceFault) → commands L total 0 rest ≡ broken fault → Found L total (commands L total 0 bytes) (Err fault)
-      found_fault fault e = record {
-        batches = sym (ap (batches_from (rows_of L p.count bytes)) e) ∙ p.batches;
-        closing = sym (ap closing_of e) ∙ p.closing;
-        within = omega arith;
-        valid = none_valid;
-      }
-
-      pub found_short : 0 < length rest → get_or rest 0 0 ≡ 1 → length (after rest) < L.width + 7 → Found L total (commands L total 0 bytes) (Err (RunsOut (total - length rest)))
-      found_short l z h = found_fault _ (row_short rest (after rest) (first_is rest 1 l z) h)
-
-      pub found_bad : 0 < length rest → get_or rest 0 0 ≡ 1 → (r : Operands) → Apart L (after rest) r → L.valid r.key.now ≡ false
-          → Found L total (commands L total 0 bytes) (Err (BadPresence (total - length rest)))
-      found_bad l z r a v = found_fault _ (row_bad rest (after rest) (first_is rest 1 l z) a.whole (ap L.valid (sym a.key) ∙ v))
-
-      pub found_unknown : 0 < length rest → (get_or rest 0 0 ≡ 1 → ⊥) → (get_or rest 0 0 ≡ 2 → ⊥) → (get_or rest 0 0 ≡ 3 → ⊥)
-          → Found L total (commands L total 0 bytes) (Err (BadCommand (total - length rest)))
-      found_unknown l a b c = found_fault _ (unknown rest l a b c)
-
       -- 02
       pub found_closed : (batch : Batch) → 0 < length rest → get_or rest 0 0 ≡ 2 → batch.rows.now ≡ take (length bytes - length rest) bytes → batch.rest.now ≡ after rest
           → Found L total (commands L total 0 bytes) (Ok (Some batch))
@@ -227,9 +164,6 @@ module _ {K : Type 0} (L : Layout K) (total : ℕ) where
 
         closing_end : closing_of (commands L total 0 bytes) ≡ ended total (after rest)
         closing_end = sym p.closing ∙ ap (λ bs. closing_of (commands L total 0 bs)) (first_is rest 3 l z)
-
-        pub found_end : length (after rest) ≡ 0 → Found L total (commands L total 0 bytes) (Ok None)
-        found_end h = record { batches = sym batches_end; closing = sym (closing_end ∙ ended_none (after rest) h); within = omega arith; valid = none_valid }
 
         pub found_more : 0 < length (after rest) → Found L total (commands L total 0 bytes) (Err (BadCommand (total - length rest + 1)))
         found_more some =

@@ -1,10 +1,7 @@
-use Rattle.std.proofs.Common.{◌≡◌, Some, refl, arith, rules}
+use Rattle.std.proofs.Common.{◌≡◌, Some, refl, rules}
 use Rattle.sources.specs.Layout.{key_in}
-use Rattle.sources.proofs.Scan.{passed_length, passed_more, found_closed, found_last, found_more, valid_where_read}
+use Rattle.sources.proofs.Scan.{passed_more, found_closed, found_last, found_more, valid_where_read}
 use Rattle.sources.proofs.batch.next_batch.Goals as goal
-
-pub overflow_sub-place : goal.overflow_sub-place
-overflow_sub-place g c = omega (arith, passed_length g.F.KeyKind.layout c.args.total c.args.bytes.now c.loop-rest.rest.now c.loop-rest.invariant, c.requires)
 
 pub returns-in-2 : goal.returns-in-2
 returns-in-2 g c =
