@@ -1,11 +1,9 @@
 -- Rows cut every n rows.
-use Rattle.std.proofs.Common.{◌≡◌, ℕ, zero, suc, ◌+◌, ◌<◌, ◌≤◌, min, max, List, [], ◌∷◌, ◌++◌, length, take, drop, Some, Option, Ok, Result, sym, refl, ap, ◌∙◌, arith, length-drop, length-take}
+use Rattle.std.proofs.Common.{◌≡◌, ℕ, zero, suc, ◌+◌, ◌<◌, ◌≤◌, max, List, [], ◌∷◌, ◌++◌, length, take, drop, Some, Ok, sym, refl, ap, ◌∙◌, arith, length-drop, length-take}
 use Rattle.std.specs.List.{flat_map}
-use Rattle.std.proofs.lemmas.List.{take-append-drop, length-take-le, length-append, take_at, drop_at}
-use Rattle.sources.specs.declared.fault.SourceFault.{SourceFault}
-use Rattle.sources.specs.Meaning.{Closing, take_of, upcoming}
+use Rattle.std.proofs.lemmas.List.{take-append-drop, length-append, take_at, drop_at}
+use Rattle.sources.specs.Meaning.{upcoming}
 use Rattle.sources.specs.Memory.{first_cut, cut, Filled, CutEvery}
-use Rattle.sources.proofs.Takes.{takes_first}
 
 -- in two lists of batches of the same rows the first batches are equally long
 as_long : (n a b x y : ℕ) → a ≤ n → b ≤ n → (0 < x → a ≡ n) → (0 < y → b ≡ n) → a + x ≡ b + y → a ≡ b
@@ -105,11 +103,6 @@ module _ {A : Type 0} where
       let c = cuts_every every rows in
       only (max every 1) other (cut every rows) (omega arith) o.filled c.filled (o.whole ∙ sym c.whole)
 
-  -- the size of the next batch
-  pub coming : (every : ℕ) (rows : List A) (n : ℕ) → 0 < length rows → n ≡ min (length rows) (max every 1) → Ok (Some n) ≡ upcoming (cut every rows) (Ok tt)
-  coming every rows n h e =
-      rw (cut_more every rows h) (ap (λ k. let r : Result (Option ℕ) SourceFault = Ok (Some k) in r) (let t = length-take (max every 1) rows in omega arith))
-
   -- what the next batch is, where it has n rows
   pub record First (every : ℕ) (rows : List A) (n : ℕ) : Type 0 where
     pub cuts : cut every rows ≡ take n rows ∷ cut every (drop n rows)
@@ -126,10 +119,3 @@ module _ {A : Type 0} where
         cuts = rw (q, take_shorter m (row ∷ rows), drop_shorter m (row ∷ rows)) (cut_more every (row ∷ rows) h);
         within = omega arith;
       }
-
-  pub takes_cut : (every : ℕ) (rows : List A) (n : ℕ) (close : Closing) (memory : List A) → First every rows n → n ≤ length memory
-      → take_of (cut every rows) close memory ≡ record { answer = Ok (Some n); left = cut every (drop n rows); memory = take n rows ++ drop n memory }
-  takes_cut every rows n close memory f h =
-      let l = length-take-le n rows f.within in
-      let k : length (take n rows) ≤ length memory = omega arith in
-      rw l at (takes_first (cut every rows) close memory (take n rows) (cut every (drop n rows)) f.cuts k)

@@ -1,5 +1,4 @@
 pub mod Cuts
-pub mod Moves
 pub mod Takes
 pub mod Presence
 pub mod Rows

@@ -1,26 +1,22 @@
 -- The rows of a batch's commands, one by one.
-use Rattle.std.proofs.Common.{◌≡◌, ℕ, zero, suc, ◌+◌, ◌-◌, ◌*◌, ◌/◌, ◌<◌, ◌≤◌, List, [], ◌∷◌, ◌++◌, length, get_or, take, drop, set, ℤ, sym, refl, ap, ◌∙◌, suc-mul, zero-mul, div-mul-le_self, mul-div_cancel, arith, w8, to_z}
-use Rattle.std.proofs.Math.Nat.{sub-zero}
-use Rattle.std.proofs.lemmas.List.{take_rest, append_assoc, take-append-drop, take-take, drop-drop, drop-take, get_or-take, length-take-le, take_more_set, drop-set-lt, length-drop, append-nil}
+use Rattle.std.proofs.Common.{◌≡◌, ℕ, zero, suc, ◌+◌, ◌-◌, ◌*◌, ◌/◌, ◌<◌, ◌≤◌, List, [], ◌∷◌, ◌++◌, length, get_or, take, drop, set, Some, true, ℤ, sym, refl, ap, ◌∙◌, suc-mul, zero-mul, div-mul-le_self, mul-div_cancel, arith, w8, to_z}
+use Rattle.std.proofs.Math.Nat.{mul-le-mul_right}
+use Rattle.std.proofs.Math.Numerals.{add-one}
+use Rattle.std.proofs.lemmas.List.{take_rest, take-take, drop-drop, drop-take, get_or-take, length-take-le, length-take, take_all, take_more_set, length-drop}
 use Rattle.std.specs.Int.Digits.{number_from_digits}
 use Rattle.rows.specs.declared.reading.Reading.{Reading}
 use Rattle.rows.specs.declared.row.Row.{Row}
 use Rattle.sources.specs.declared.batch.Operands.{Operands}
-use Rattle.sources.specs.Layout.{Layout, field}
+use Rattle.sources.specs.Layout.{Layout, field, key_in}
 use Rattle.sources.specs.Log.{reading_of, row_of}
-use Rattle.sources.specs.Coming.{Apart, row_width, rows_of, rows_in}
+use Rattle.sources.specs.Coming.{Apart, KeysAreValid, row_width, rows_of, rows_in}
 
 -- a part of the front of a list is that part of the list
-inner_part : {X : Type 0} (i k n : ℕ) (xs : List X) → i + k ≤ n → take k (drop i (take n xs)) ≡ take k (drop i xs)
+pub inner_part : {X : Type 0} (i k n : ℕ) (xs : List X) → i + k ≤ n → take k (drop i (take n xs)) ≡ take k (drop i xs)
 inner_part i k n xs h =
     let parts : n ≡ i + (n - i) = omega arith in
     let inside : k ≤ n - i = omega arith in
     ap (λ m. take k (drop i (take m xs))) parts ∙ ap (take k) (drop-take i (n - i) xs) ∙ take-take k (n - i) (drop i xs) inside
-
--- one of several equal parts
-pub one_part : (count width all : ℕ) → 0 < count → count * width ≤ all → width ≤ all
-one_part zero width all h k = absurd (omega arith)
-one_part (suc n) width all h k = omega (arith, suc-mul n width)
 
 pub some_part : (count width : ℕ) → 0 < count * width → 0 < count
 some_part zero width h = absurd (omega (arith, zero-mul width))
@@ -110,46 +106,52 @@ row_apart L rest row key a e =
     let after = take (length rest - 1) (drop 1 rest) in
     ap (λ k. row_with k row.reading) (e ∙ ap L.decoded a.key) ∙ ap (row_with (L.decoded (take L.width after))) a.reading ∙ ap (row_of L) (take_rest rest 1)
 
+-- and its key, where that is valid
+pub key_apart : {K : Type 0} (L : Layout K) (rest : List ℕ) (row : Operands) → Apart L (take (length rest - 1) (drop 1 rest)) row → L.valid (take L.width (drop 1 rest)) ≡ true
+    → key_in L row.key.now ≡ Some (L.decoded row.key.now)
+key_apart L rest row a valid = rw (a.key, take_rest rest 1, valid) refl
+
 pub rest_apart : {K : Type 0} (L : Layout K) (rest : List ℕ) (row : Operands) → Apart L (take (length rest - 1) (drop 1 rest)) row → row.rest.now ≡ drop (row_width L) rest
 rest_apart L rest row a =
     a.rest ∙ ap (drop (L.width + 7)) (take_rest rest 1) ∙ drop-drop (L.width + 7) 1 rest ∙ ap (λ m. drop m rest) (omega arith)
 
--- A loop that writes n rows into a memory, of which it has written i.
-pub record Writing {K : Type 0} (L : Layout K) (rows : List ℕ) (before : List (Row K)) (n i : ℕ) (memory : List (Row K)) (rest : List ℕ) : Type 0 where
-  pub room : (n - i) * row_width L ≤ length rest
-  pub written : take i memory ++ rows_of L (n - i) rest ≡ rows_of L n rows
-  pub beyond : drop i memory ≡ drop i before
+module _ {K : Type 0} (L : Layout K) (rows : List ℕ) where
+  -- so many rows of the bytes are within them
+  rows_within : (n : ℕ) → n ≤ length rows / row_width L → n * row_width L ≤ length rows
+  rows_within n h =
+      let few : n * row_width L ≤ length rows / row_width L * row_width L = mul-le-mul_right (row_width L) h in
+      omega (arith, few, div-mul-le_self (length rows) (row_width L))
 
-module _ {K : Type 0} (L : Layout K) (rows : List ℕ) (before : List (Row K)) (n : ℕ) where
-  pub writing_none : n ≡ length rows / row_width L → Writing L rows before n 0 before rows
-  writing_none e = record {
-    room = rw (sub-zero n, e) (div-mul-le_self (length rows) (row_width L));
-    written = ap (λ m. rows_of L m rows) (sub-zero n);
-    beyond = refl;
-  }
+  -- A loop that writes rows into a memory, of which it has written i.
+  pub record Writing (i : ℕ) (memory : List (Row K)) (rest : List ℕ) : Type 0 where
+    pub behind : rest ≡ drop (i * row_width L) rows
+    pub written : take i memory ≡ rows_of L i rows
 
-  pub writing_more : (i : ℕ) (memory : List (Row K)) (rest next : List ℕ) (r : Row K) → i < n → i < length memory → Writing L rows before n i memory rest
-      → r ≡ row_of L (drop 1 rest) → next ≡ drop (row_width L) rest → Writing L rows before n (i + 1) (set memory i r) next
-  writing_more i memory rest next r h l w er en =
-      let m = n - (i + 1) in
-      let one : n - i ≡ suc m = omega arith in
-      let size : suc m * row_width L ≤ length rest = rw one at w.room in
-      let was : take i memory ++ rows_of L (suc m) rest ≡ rows_of L n rows = rw one at w.written in
-      record {
-        room = rw (en, length-drop (row_width L) rest) (omega (arith, suc-mul m (row_width L), size));
-        written =
-            ap (λ xs. xs ++ rows_of L m next) (take_more_set memory i r l)
-            ∙ append_assoc (take i memory) (r ∷ []) (rows_of L m next)
-            ∙ (rw (er, en) was);
-        beyond =
-            drop-set-lt (i + 1) memory i r (omega arith)
-            ∙ sym (drop-drop 1 i memory) ∙ ap (drop 1) w.beyond ∙ drop-drop 1 i before;
-      }
+  module _ (i : ℕ) (memory : List (Row K)) (rest : List ℕ) (w : Writing i memory rest) (count : ℕ) (before : List (Row K)) (e : count ≡ length (rows_in L rows)) (t : i < length (take count before)) where
+    more : i < length rows / row_width L
+    more = omega (arith, t, e, length-take count before, length_rows_of L (length rows / row_width L) rows)
 
-  pub writing_all : (i : ℕ) (memory : List (Row K)) (rest : List ℕ) → i ≡ n → Writing L rows before n i memory rest → memory ≡ rows_of L n rows ++ drop n before
-  writing_all i memory rest e w =
-      let none : n - i ≡ 0 = omega arith in
-      let all : take i memory ++ [] ≡ rows_of L n rows = rw none at w.written in
-      sym (take-append-drop i memory)
-      ∙ ap (λ xs. xs ++ drop i memory) (sym (append-nil (take i memory)) ∙ all)
-      ∙ ap (λ ys. rows_of L n rows ++ ys) (w.beyond ∙ ap (λ m. drop m before) e)
+    -- the next row is whole, and its key is valid
+    pub row_room : row_width L ≤ length rest
+    row_room =
+        omega (arith, ap length w.behind, length-drop (i * row_width L) rows, rows_within (suc i) more, suc-mul i (row_width L))
+
+    pub row_valid : KeysAreValid L rows → L.valid (take L.width (drop 1 rest)) ≡ true
+    row_valid valid = rw (w.behind, drop-drop 1 (i * row_width L) rows) (valid i more)
+
+    pub writing_more : (next : List ℕ) (r : Row K) → i < length memory → r ≡ row_of L (drop 1 rest) → next ≡ drop (row_width L) rest → Writing (i + 1) (set memory i r) next
+    writing_more next r l er en =
+        let w' = row_width L in
+        record {
+          behind = en ∙ ap (drop w') w.behind ∙ drop-drop w' (i * w') rows ∙ ap (λ m. drop m rows) (omega (arith, suc-mul i w'));
+          written =
+              take_more_set memory i r l
+              ∙ ap (λ xs. xs ++ (r ∷ [])) w.written
+              ∙ ap (λ x. rows_of L i rows ++ (x ∷ [])) (er ∙ ap (λ bs. row_of L (drop 1 bs)) w.behind)
+              ∙ sym (rows_of_more L i rows)
+              ∙ ap (λ m. rows_of L m rows) (sym (add-one i));
+        }
+
+  pub writing_all : (i : ℕ) (memory : List (Row K)) (rest : List ℕ) → Writing i memory rest → i ≡ length (rows_in L rows) → length memory ≤ i → memory ≡ rows_in L rows
+  writing_all i memory rest w e all =
+      sym (take_all i memory all) ∙ w.written ∙ ap (λ m. rows_of L m rows) (e ∙ length_rows_of L (length rows / row_width L) rows)

@@ -1,16 +1,16 @@
 -- A scan over a log's commands, row by row, up to the command that closes the batch or the log.
-use Rattle.std.proofs.Common.{◌≡◌, ℕ, zero, suc, ◌+◌, ◌-◌, ◌*◌, ◌<◌, ◌≤◌, true, false, leb, List, [], ◌∷◌, ◌++◌, length, get_or, take, drop, Some, None, Ok, Err, sym, refl, ap, ◌∙◌, suc-mul, zero-mul, arith, eq-eqb, ne_eqb, le-leb}
-use Rattle.std.proofs.lemmas.Bool.{lt-leb}
-use Rattle.std.proofs.lemmas.List.{drop-drop, length-drop, length-take, take_rest}
+use Rattle.std.proofs.Common.{◌≡◌, ℕ, zero, suc, ◌+◌, ◌-◌, ◌*◌, ◌/◌, ◌<◌, ◌≤◌, Bool, true, false, leb, List, [], ◌∷◌, ◌++◌, length, get_or, take, drop, Some, None, Ok, Err, sym, refl, ap, ◌∙◌, ⊎_elim, suc-mul, mul-div_cancel, arith, le-leb}
+use Rattle.std.proofs.lemmas.Bool.{cases_eq}
+use Rattle.std.proofs.Math.Nat.{mul-le-mul_right, zero-div}
+use Rattle.std.proofs.lemmas.List.{drop-drop, length-drop, length-take, length-take-le, take_rest}
 use Rattle.sources.specs.declared.batch.Batch.{Batch}
 use Rattle.sources.specs.declared.batch.Operands.{Operands}
-use Rattle.sources.specs.declared.fault.SourceFault.{SourceFault}
-use Rattle.sources.specs.declared.fault.SourceFault.TheVariants.{BadCommand, RunsOut, BadPresence}
+use Rattle.sources.specs.declared.fault.SourceFault.TheVariants.{BadCommand}
 use Rattle.sources.specs.Meaning.{Closing}
-use Rattle.sources.specs.Layout.{Layout}
-use Rattle.sources.specs.Log.{Commands, row, last, broken, row_of, ended, commands, commands_of, batches_from, closing_of}
-use Rattle.sources.specs.Coming.{Coming, Apart, row_width, rows_of, rows_in, Found}
-use Rattle.sources.proofs.Rows.{some_part, no_part, rows_of_more, rows_in_front}
+use Rattle.sources.specs.Layout.{Layout, key_in}
+use Rattle.sources.specs.Log.{row, last, row_of, ended, commands, batches_from, closing_of}
+use Rattle.sources.specs.Coming.{Apart, KeysAreValid, row_width, rows_of, rows_in, Found}
+use Rattle.sources.proofs.Rows.{inner_part, some_part, no_part, rows_of_more, rows_in_front}
 
 -- what follows the first byte, as the checker reads a pattern's rest
 abbrev pub after : List ℕ → List ℕ
@@ -20,15 +20,13 @@ first_is : (bytes : List ℕ) (command : ℕ) → 0 < length bytes → get_or by
 first_is [] command l z = absurd (omega arith)
 first_is (b ∷ bytes) command l z = ap (λ x. x ∷ bytes) z ∙ ap (λ bs. command ∷ bs) (sym (take_rest (b ∷ bytes) 1))
 
--- the commands after a log's first
-pub after_header : {K : Type 0} (L : Layout K) (bytes rest : List ℕ) → 2 ≤ length bytes → get_or bytes 0 0 ≡ 0 → get_or bytes 1 0 ≡ L.code → rest ≡ drop 2 bytes
-    → commands L (length bytes) 0 rest ≡ commands_of L bytes
-after_header L [] rest h a b e = absurd (omega arith)
-after_header L (x ∷ []) rest h a b e = absurd (omega arith)
-after_header L (x ∷ code ∷ bytes) rest h a b e = rw (a, eq-eqb code L.code b, e)
-
-pub found_same : {K : Type 0} (L : Layout K) (total : ℕ) (all others : Commands K) (coming : Coming) → all ≡ others → Found L total all coming → Found L total others coming
-found_same L total all others coming e f = record { batches = f.batches ∙ ap (batches_from []) e; closing = f.closing ∙ ap closing_of e; within = f.within }
+-- bytes in which a key is read are valid
+pub valid_where_read : {K : Type 0} (L : Layout K) (bytes : List ℕ) (key : K) → Some key ≡ key_in L bytes → L.valid bytes ≡ true
+valid_where_read L bytes key e = go (L.valid bytes) refl
+  where
+    go : (t : Bool) → L.valid bytes ≡ t → L.valid bytes ≡ true
+    go true v = v
+    go false v = let none : Some key ≡ None = e ∙ rw v refl in absurd (cc none)
 
 -- the scan has passed so many whole rows; they stand before the commands of the rest
 pub record Passed {K : Type 0} (L : Layout K) (total : ℕ) (bytes rest : List ℕ) : Type 0 where
@@ -37,8 +35,12 @@ pub record Passed {K : Type 0} (L : Layout K) (total : ℕ) (bytes rest : List �
   pub behind : rest ≡ drop (count * row_width L) bytes
   pub batches : batches_from (rows_of L count bytes) (commands L total 0 rest) ≡ batches_from [] (commands L total 0 bytes)
   pub closing : closing_of (commands L total 0 rest) ≡ closing_of (commands L total 0 bytes)
+  pub valid : (n : ℕ) → n < count → L.valid (take L.width (drop (n * row_width L + 1) bytes)) ≡ true
 
 module _ {K : Type 0} (L : Layout K) (total : ℕ) where
+  none_valid : KeysAreValid L []
+  none_valid n h = absurd (omega (arith, zero-div (row_width L)))
+
   commands_past : (n : ℕ) (bytes : List ℕ) → n ≤ length bytes → commands L total n bytes ≡ commands L total 0 (drop n bytes)
   commands_past zero bytes h = refl
   commands_past (suc n) [] h = absurd (omega arith)
@@ -51,22 +53,6 @@ module _ {K : Type 0} (L : Layout K) (total : ℕ) where
       let is : leb (L.width + 7) (length bytes) ≡ true = le-leb (L.width + 7) (length bytes) h in
       rw (is, v) (ap (row (row_of L bytes)) (commands_past (L.width + 7) bytes h))
 
-  row_short : (rest bytes : List ℕ) → rest ≡ 1 ∷ bytes → length bytes < L.width + 7 → commands L total 0 rest ≡ broken (RunsOut (total - length rest))
-  row_short rest bytes e h =
-      let is : leb (L.width + 7) (length bytes) ≡ false = lt-leb (L.width + 7) (length bytes) h in
-      rw (e, is)
-
-  row_bad : (rest bytes : List ℕ) → rest ≡ 1 ∷ bytes → L.width + 7 ≤ length bytes → L.valid (take L.width bytes) ≡ false
-      → commands L total 0 rest ≡ broken (BadPresence (total - length rest))
-  row_bad rest bytes e h v =
-      let is : leb (L.width + 7) (length bytes) ≡ true = le-leb (L.width + 7) (length bytes) h in
-      rw (e, is, v)
-
-  unknown : (rest : List ℕ) → 0 < length rest → (get_or rest 0 0 ≡ 1 → ⊥) → (get_or rest 0 0 ≡ 2 → ⊥) → (get_or rest 0 0 ≡ 3 → ⊥)
-      → commands L total 0 rest ≡ broken (BadCommand (total - length rest))
-  unknown [] h a b c = absurd (omega arith)
-  unknown (command ∷ bytes) h a b c = rw (ne_eqb command 1 a, ne_eqb command 2 b, ne_eqb command 3 c)
-
   -- whether 03 closes a batch
   last_rows : (n : ℕ) (bytes : List ℕ) (closing : Closing) → 0 < n → batches_from (rows_of L n bytes) (last closing) ≡ rows_of L n bytes ∷ []
   last_rows zero bytes closing h = absurd (omega arith)
@@ -76,29 +62,16 @@ module _ {K : Type 0} (L : Layout K) (total : ℕ) where
   last_none zero bytes closing h = refl
   last_none (suc n) bytes closing h = absurd (omega arith)
 
-  ended_none : (bytes : List ℕ) → length bytes ≡ 0 → ended total bytes ≡ Ok tt
-  ended_none [] h = refl
-  ended_none (byte ∷ bytes) h = absurd (omega arith)
-
   too_long : (bytes : List ℕ) → 0 < length bytes → ended total bytes ≡ Err (BadCommand (total - length bytes))
   too_long [] h = absurd (omega arith)
   too_long (byte ∷ bytes) h = refl
-
-  pub passed_none : (bytes : List ℕ) → Passed L total bytes bytes
-  passed_none bytes = record {
-    count = 0;
-    inside = omega (arith, zero-mul (row_width L));
-    behind = ap (λ m. drop m bytes) (sym (zero-mul (row_width L)));
-    batches = refl;
-    closing = refl;
-  }
 
   module _ (bytes rest : List ℕ) (p : Passed L total bytes rest) where
     pub passed_length : length rest + p.count * row_width L ≡ length bytes
     passed_length = omega (arith, p.inside, ap length p.behind, length-drop (p.count * row_width L) bytes)
 
     -- one row more
-    pub passed_more : 0 < length rest → get_or rest 0 0 ≡ 1 → (r : Operands) → Apart L (after rest) r → true ≡ L.valid r.key.now → Passed L total bytes r.rest.now
+    pub passed_more : 0 < length rest → get_or rest 0 0 ≡ 1 → (r : Operands) → Apart L (after rest) r → L.valid r.key.now ≡ true → Passed L total bytes r.rest.now
     passed_more l z r a v =
         let w = row_width L in
         let n = p.count in
@@ -107,8 +80,11 @@ module _ {K : Type 0} (L : Layout K) (total : ℕ) where
         let here : drop (n * w) bytes ≡ 1 ∷ after rest = sym p.behind ∙ e in
         let eight : w ≡ suc (L.width + 7) = omega arith in
         let whole : L.width + 7 ≤ length (after rest) = a.whole in
+        let good : L.valid (take L.width (after rest)) ≡ true = ap L.valid (sym a.key) ∙ v in
+        let last : L.valid (take L.width (drop (n * w + 1) bytes)) ≡ true =
+        ap (λ bs. L.valid (take L.width bs)) (sym (drop-drop 1 (n * w) bytes) ∙ ap (drop 1) here) ∙ good in
         let step : commands L total 0 rest ≡ row (row_of L (after rest)) (commands L total 0 r.rest.now) =
-        ap (commands L total 0) e ∙ row_whole (after rest) a.whole (sym (v ∙ ap L.valid a.key))
+        ap (commands L total 0) e ∙ row_whole (after rest) a.whole good
         ∙ ap (λ bs. row (row_of L (after rest)) (commands L total 0 bs)) (sym a.rest) in
         let more : rows_of L (suc n) bytes ≡ rows_of L n bytes ++ (row_of L (after rest) ∷ []) =
         rows_of_more L n bytes ∙ ap (λ bs. rows_of L n bytes ++ (row_of L (drop 1 bs) ∷ [])) here in
@@ -119,10 +95,8 @@ module _ {K : Type 0} (L : Layout K) (total : ℕ) where
               a.rest ∙ ap (λ m. drop m (1 ∷ after rest)) (sym eight) ∙ ap (drop w) (sym here) ∙ drop-drop w (n * w) bytes ∙ ap (λ m. drop m bytes) (sym (suc-mul n w));
           batches = ap (λ rows. batches_from rows (commands L total 0 r.rest.now)) more ∙ sym (ap (batches_from (rows_of L n bytes)) step) ∙ p.batches;
           closing = sym (ap closing_of step) ∙ p.closing;
+          valid = λ m h. ⊎_elim (λ (e : m ≡ n). rw e last) (λ (ne : m ≡ n → ⊥). p.valid m (omega (arith, ne))) (cases_eq m n);
         }
-
-    pub passed_less : 0 < length rest → (r : Operands) → Apart L (after rest) r → length r.rest.now < length rest
-    passed_less l r a = omega (arith, ap length a.rest, length-drop (L.width + 7) (after rest), ap length (take_rest rest 1), length-drop 1 rest)
 
     -- the rows passed, from the bytes that hold them
     passed_rows : (held : List ℕ) → held ≡ take (length bytes - length rest) bytes → rows_in L held ≡ rows_of L p.count bytes
@@ -130,25 +104,20 @@ module _ {K : Type 0} (L : Layout K) (total : ℕ) where
         let size : length bytes - length rest ≡ p.count * row_width L = omega (arith, passed_length) in
         ap (rows_in L) (e ∙ ap (λ m. take m bytes) size) ∙ rows_in_front L p.count bytes p.inside
 
+    passed_valid : (held : List ℕ) → held ≡ take (length bytes - length rest) bytes → KeysAreValid L held
+    passed_valid held e n h =
+        let w = row_width L in
+        let some : 0 < w = omega arith in
+        let size : length bytes - length rest ≡ p.count * w = omega (arith, passed_length) in
+        let front : held ≡ take (p.count * w) bytes = e ∙ ap (λ m. take m bytes) size in
+        let count : length held / w ≡ p.count = ap (λ m. m / w) (ap length front ∙ length-take-le (p.count * w) bytes p.inside) ∙ mul-div_cancel p.count some in
+        let there : n < p.count = rw count at h in
+        let ends : suc n * w ≤ p.count * w = mul-le-mul_right w there in
+        ap (λ bs. L.valid (take L.width (drop (n * w + 1) bs))) front
+        ∙ ap L.valid (inner_part (n * w + 1) L.width (p.count * w) bytes (omega (arith, ends, suc-mul n w)))
+        ∙ p.valid n there
+
     module _ (fits : length bytes ≤ total) where
-      found_fault : (fault : SourceFault) → commands L total 0 rest ≡ broken fault → Found L total (commands L total 0 bytes) (Err fault)
-      found_fault fault e = record {
-        batches = sym (ap (batches_from (rows_of L p.count bytes)) e) ∙ p.batches;
-        closing = sym (ap closing_of e) ∙ p.closing;
-        within = omega arith;
-      }
-
-      pub found_short : 0 < length rest → get_or rest 0 0 ≡ 1 → length (after rest) < L.width + 7 → Found L total (commands L total 0 bytes) (Err (RunsOut (total - length rest)))
-      found_short l z h = found_fault _ (row_short rest (after rest) (first_is rest 1 l z) h)
-
-      pub found_bad : 0 < length rest → get_or rest 0 0 ≡ 1 → (r : Operands) → Apart L (after rest) r → false ≡ L.valid r.key.now
-          → Found L total (commands L total 0 bytes) (Err (BadPresence (total - length rest)))
-      found_bad l z r a v = found_fault _ (row_bad rest (after rest) (first_is rest 1 l z) a.whole (sym (v ∙ ap L.valid a.key)))
-
-      pub found_unknown : 0 < length rest → (get_or rest 0 0 ≡ 1 → ⊥) → (get_or rest 0 0 ≡ 2 → ⊥) → (get_or rest 0 0 ≡ 3 → ⊥)
-          → Found L total (commands L total 0 bytes) (Err (BadCommand (total - length rest)))
-      found_unknown l a b c = found_fault _ (unknown rest l a b c)
-
       -- 02
       pub found_closed : (batch : Batch) → 0 < length rest → get_or rest 0 0 ≡ 2 → batch.rows.now ≡ take (length bytes - length rest) bytes → batch.rest.now ≡ after rest
           → Found L total (commands L total 0 bytes) (Ok (Some batch))
@@ -161,6 +130,7 @@ module _ {K : Type 0} (L : Layout K) (total : ℕ) where
                 ∙ sym (ap (λ bs. batches_from (rows_of L p.count bytes) (commands L total 0 bs)) e) ∙ p.batches;
             closing = ap (λ bs. closing_of (commands L total 0 bs)) left ∙ sym (ap (λ bs. closing_of (commands L total 0 bs)) e) ∙ p.closing;
             within = omega (arith, passed_length, ap length e, ap length left);
+            valid = passed_valid batch.rows.now held;
           }
 
       -- 03 after rows closes their batch
@@ -178,6 +148,7 @@ module _ {K : Type 0} (L : Layout K) (total : ℕ) where
                 ∙ p.batches;
             closing = ap (λ bs. closing_of (commands L total 0 bs)) left ∙ p.closing;
             within = omega (arith, passed_length, ap length left);
+            valid = passed_valid batch.rows.now held;
           }
 
       -- 03 with no row before it ends the log
@@ -194,9 +165,6 @@ module _ {K : Type 0} (L : Layout K) (total : ℕ) where
         closing_end : closing_of (commands L total 0 bytes) ≡ ended total (after rest)
         closing_end = sym p.closing ∙ ap (λ bs. closing_of (commands L total 0 bs)) (first_is rest 3 l z)
 
-        pub found_end : length (after rest) ≡ 0 → Found L total (commands L total 0 bytes) (Ok None)
-        found_end h = record { batches = sym batches_end; closing = sym (closing_end ∙ ended_none (after rest) h); within = omega arith }
-
         pub found_more : 0 < length (after rest) → Found L total (commands L total 0 bytes) (Err (BadCommand (total - length rest + 1)))
         found_more some =
             let next : total - length rest + 1 ≡ total - length (after rest) = omega (arith, ap length (first_is rest 3 l z), passed_length) in
@@ -204,4 +172,5 @@ module _ {K : Type 0} (L : Layout K) (total : ℕ) where
               batches = sym batches_end;
               closing = ap (λ n. let c : Closing = Err (BadCommand n) in c) next ∙ sym (closing_end ∙ too_long (after rest) some);
               within = omega arith;
+              valid = none_valid;
             }

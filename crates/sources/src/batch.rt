@@ -1,6 +1,6 @@
 ghost use Rattle.std.specs.Prelude.{◌≡◌, ◌+◌, ◌<◌, ◌≤◌, ◌++◌, length, drop, MatchOption};
 ghost use Rattle.sources.specs.Log.{commands};
-ghost use Rattle.sources.specs.Coming.{Apart, Found, rows_in};
+ghost use Rattle.sources.specs.Coming.{Apart, Found, KeysAreValid, rows_in};
 
 use crate::fault::SourceFault;
 use crate::kind::KeyKind;
@@ -75,12 +75,8 @@ pub(crate) fn next_batch<F: KeyKind>(bytes: &[u8], total: usize) -> Coming<'_>
         let rows = &bytes[..bytes.len() - rest.len()];
         match *command {
             ROW => {
-                let Some(row) = take_apart::<F>(after) else {
-                    return Err(SourceFault::RunsOut(place));
-                };
-                if !F::is_valid(row.key) {
-                    return Err(SourceFault::BadPresence(place));
-                }
+                let row = take_apart::<F>(after).ok_or(SourceFault::RunsOut(place))?;
+                F::read(row.key).ok_or(SourceFault::BadPresence(place))?;
                 rest = row.rest;
             }
             CLOSE => return Ok(Some(Batch { rows, rest: after })),
@@ -102,17 +98,21 @@ pub(crate) fn row_count<F: KeyKind>(rows: &[u8]) -> usize
 
 // Writes a batch's rows to the start of the memory.
 pub(crate) fn write_rows<F: KeyKind>(rows: &[u8], memory: &mut [Row<F::Key>])
-    requires { length (rows_in F.KeyKind.layout rows.now) ≤ length memory.old }
+    requires room { length (rows_in F.KeyKind.layout rows.now) ≤ length memory.old }
+    requires valid { KeysAreValid F.KeyKind.layout rows.now }
     ensures { memory.new ≡ rows_in F.KeyKind.layout rows.now ++ drop (length (rows_in F.KeyKind.layout rows.now)) memory.old }
 {
     let mut rest = rows;
-    for i in 0..row_count::<F>(rows) {
+    for slot in &mut memory[..row_count::<F>(rows)] {
         let [_, after @ ..] = rest else { unreachable() };
         let Some(row) = take_apart::<F>(after) else {
             unreachable()
         };
-        memory[i] = Row {
-            key: F::decode(row.key),
+        let Some(key) = F::read(row.key) else {
+            unreachable()
+        };
+        *slot = Row {
+            key,
             reading: row.reading,
         };
         rest = row.rest;

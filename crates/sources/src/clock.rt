@@ -25,7 +25,7 @@ pub fn moved(moment: u32, offset: i32) -> u32
 fn move_all<K>(rows: &mut [Row<K>], offset: i32)
     ensures { rows.new ≡ map (moved_row offset) rows.old }
 {
-    for row in rows.iter_mut() {
+    for row in rows {
         row.reading.moment = moved(row.reading.moment, offset);
     }
 }

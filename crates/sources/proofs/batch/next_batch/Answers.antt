@@ -1,18 +1,7 @@
-use Rattle.std.proofs.Common.{refl, arith, rules}
-use Rattle.sources.proofs.Scan.{passed_length, passed_more, passed_less, found_closed, found_last}
+use Rattle.std.proofs.Common.{◌≡◌, Some, refl, rules}
+use Rattle.sources.specs.Layout.{key_in}
+use Rattle.sources.proofs.Scan.{passed_more, found_closed, found_last, found_more, valid_where_read}
 use Rattle.sources.proofs.batch.next_batch.Goals as goal
-
-pub overflow_sub-place : goal.overflow_sub-place
-overflow_sub-place g c = omega (arith, passed_length g.F.KeyKind.layout c.args.total c.args.bytes.now c.loop-rest.rest.now c.loop-rest.invariant, c.requires)
-
-pub loop-rest-smaller : goal.loop-rest-smaller
-loop-rest-smaller g c =
-    passed_less g.F.KeyKind.layout c.args.total c.args.bytes.now c.loop-rest.rest.now c.loop-rest.invariant (search rules) c.in-Some.row c.in-Some.ensures
-
-pub loop-rest-preserved : goal.loop-rest-preserved
-loop-rest-preserved g c =
-    passed_more g.F.KeyKind.layout c.args.total c.args.bytes.now c.loop-rest.rest.now c.loop-rest.invariant
-    (search rules) c.in-1.is c.in-Some.row c.in-Some.ensures c.if-not-is_valid.ensures
 
 pub returns-in-2 : goal.returns-in-2
 returns-in-2 g c =
@@ -21,3 +10,16 @@ returns-in-2 g c =
 pub returns-in-3 : goal.returns-in-3
 returns-in-3 g c =
     found_last g.F.KeyKind.layout c.args.total c.args.bytes.now c.loop-rest.rest.now c.loop-rest.invariant c.requires _ (search rules) c.in-3.is (search rules) refl refl
+
+pub returns-in-3-3 : goal.returns-in-3-3
+returns-in-3-3 g c =
+    found_more g.F.KeyKind.layout c.args.total c.args.bytes.now c.loop-rest.rest.now c.loop-rest.invariant c.requires (search rules) c.in-3.is _ (search rules) refl (search rules)
+
+pub loop-rest-preserved : goal.loop-rest-preserved
+loop-rest-preserved g c =
+    let L = g.F.KeyKind.layout in
+    let row = c.in_ok-row-in-1.row in
+    let key = c.in_ok-ok_or-in-1.field-0 in
+    let read : Some key ≡ key_in L row.key.now = cc (c.in_ok-ok_or-in-1.ensures.ok_part, c.read.ensures) in
+    passed_more L c.args.total c.args.bytes.now c.loop-rest.rest.now c.loop-rest.invariant (search rules) c.in-1.is row
+    (rw c.in_ok-row-in-1.ensures.ok_part at c.take_apart.ensures) (valid_where_read L row.key.now key read)

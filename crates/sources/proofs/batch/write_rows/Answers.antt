@@ -1,37 +1,49 @@
-use Rattle.std.proofs.Common.{◌≡◌, ◌-◌, ◌/◌, ◌≤◌, ◌++◌, length, drop, ap, ◌∙◌, arith, rules}
-use Rattle.std.proofs.lemmas.List.{take_rest, length-drop}
-use Rattle.sources.specs.Coming.{row_width, rows_of, rows_in}
-use Rattle.sources.proofs.Rows.{one_part, length_rows_of, row_apart, rest_apart, writing_none, writing_more, writing_all}
+use Rattle.std.proofs.Common.{◌≡◌, ◌≤◌, ◌++◌, length, drop, Some, sym, ap, ◌∙◌, arith, rules}
+use Rattle.std.proofs.lemmas.List.{take_rest, length-drop, length-take-le}
+use Rattle.sources.specs.Coming.{rows_in}
+use Rattle.sources.proofs.Rows.{row_apart, key_apart, rest_apart, row_room, row_valid, writing_more, writing_all}
 use Rattle.sources.proofs.batch.write_rows.Goals as goal
 
-pub loop-i-init : goal.loop-i-init
-loop-i-init g c =
+pub unreachable-requires : goal.unreachable-requires
+unreachable-requires g c =
     let L = g.F.KeyKind.layout in
-    let rows = c.args.rows.now in
-    writing_none L rows c.args.memory.now c.row_count-i-end.result (c.row_count-i-end.ensures ∙ length_rows_of L (length rows / row_width L) rows)
+    let room = row_room L c.args.rows.now c.loop-slot.slot-index c.loop-slot.slot-items c.loop-slot.rest.now c.loop-slot.invariant c.row_count.result c.args.memory.now c.row_count.ensures c.loop-slot-test.true in
+    omega (arith, room, c.in_default.len_below)
 
 pub unreachable-requires-in_default-take_apart : goal.unreachable-requires-in_default-take_apart
 unreachable-requires-in_default-take_apart g c =
     let L = g.F.KeyKind.layout in
-    let rest = c.loop-i.rest.now in
-    let room : row_width L ≤ length rest = one_part (c.row_count-i-end.result - c.loop-i.i) (row_width L) (length rest) (omega (arith, c.loop-i-test.true)) c.loop-i.invariant.room in
+    let rest = c.loop-slot.rest.now in
+    let room = row_room L c.args.rows.now c.loop-slot.slot-index c.loop-slot.slot-items rest c.loop-slot.invariant c.row_count.result c.args.memory.now c.row_count.ensures c.loop-slot-test.true in
     omega (arith, room, c.in_default-take_apart.ensures, ap length (take_rest rest 1), length-drop 1 rest)
 
-pub loop-i-preserved : goal.loop-i-preserved
-loop-i-preserved g c =
+pub unreachable-requires-in_default-read : goal.unreachable-requires-in_default-read
+unreachable-requires-in_default-read g c =
     let L = g.F.KeyKind.layout in
-    let rest = c.loop-i.rest.now in
-    let row = c.in-Some.ensures in
-    writing_more L c.args.rows.now c.args.memory.now c.row_count-i-end.result c.loop-i.i c.loop-i.memory rest _ _ c.loop-i-test.true (search rules) c.loop-i.invariant
-    (row_apart L rest c.in-Some.row c.decode.result row c.decode.ensures) (rest_apart L rest c.in-Some.row row)
+    let rest = c.loop-slot.rest.now in
+    let valid = row_valid L c.args.rows.now c.loop-slot.slot-index c.loop-slot.slot-items rest c.loop-slot.invariant c.row_count.result c.args.memory.now c.row_count.ensures c.loop-slot-test.true c.requires.valid in
+    c.in_default-read.not-Some _ (c.read.ensures ∙ key_apart L rest c.in-Some.row c.in-Some.ensures valid)
+
+pub loop-slot-preserved : goal.loop-slot-preserved
+loop-slot-preserved g c =
+    let L = g.F.KeyKind.layout in
+    let rest = c.loop-slot.rest.now in
+    let row = c.in-Some.row in
+    let apart = c.in-Some.ensures in
+    let valid = row_valid L c.args.rows.now c.loop-slot.slot-index c.loop-slot.slot-items rest c.loop-slot.invariant c.row_count.result c.args.memory.now c.row_count.ensures c.loop-slot-test.true c.requires.valid in
+    let read : Some c.in-Some-read.key ≡ Some (L.decoded row.key.now) = sym c.in-Some-read.is ∙ c.read.ensures ∙ key_apart L rest row apart valid in
+    let key : c.in-Some-read.key ≡ L.decoded row.key.now = cc read in
+    writing_more L c.args.rows.now c.loop-slot.slot-index c.loop-slot.slot-items rest c.loop-slot.invariant c.row_count.result c.args.memory.now c.row_count.ensures c.loop-slot-test.true _ _ (search rules)
+    (row_apart L rest row c.in-Some-read.key apart key) (rest_apart L rest row apart)
 
 pub returns : goal.returns
 returns g c =
     let L = g.F.KeyKind.layout in
     let rows = c.args.rows.now in
     let before = c.args.memory.now in
-    let n = c.row_count-i-end.result in
-    let count : n ≡ length rows / row_width L = c.row_count-i-end.ensures ∙ length_rows_of L (length rows / row_width L) rows in
-    writing_all L rows before n c.loop-i.i c.loop-i.memory c.loop-i.rest.now (omega (arith, c.loop-i-test.false, c.loop-i.auto.i-end)) c.loop-i.invariant
-    ∙ ap (λ m. rows_of L m rows ++ drop n before) count
-    ∙ ap (λ m. rows_in L rows ++ drop m before) c.row_count-i-end.ensures
+    let count = c.row_count.result in
+    let all : length c.loop-slot.slot-items ≤ c.loop-slot.slot-index = omega (arith, c.loop-slot-test.false, c.loop-slot.auto.slot-items) in
+    let room : count ≤ length before = omega (arith, c.row_count.ensures, c.requires.room) in
+    let end : c.loop-slot.slot-index ≡ count = omega (arith, c.loop-slot-test.false, c.loop-slot.auto.slot-index-end, length-take-le count before room) in
+    ap (λ part. part ++ drop count before) (writing_all L rows c.loop-slot.slot-index c.loop-slot.slot-items c.loop-slot.rest.now c.loop-slot.invariant (end ∙ c.row_count.ensures) all)
+    ∙ ap (λ m. rows_in L rows ++ drop m before) c.row_count.ensures
