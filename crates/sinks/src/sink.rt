@@ -9,6 +9,7 @@ use rows::record::Record;
 pub struct Unfit;
 
 impl Unfit {
+    // The rules give each refusal a number.
     pub const NUMBER: u8 = 11;
 
     pub fn number(&self) -> u8
