@@ -6,6 +6,7 @@ ghost use Rattle.filters.specs.Verdicts.{is_yes, decided, and};
 use rows::reading::Reading;
 
 // What a filter says of a pair; unknown counts as no.
+// The words are the rules' own: as an Option<bool>, no would read Some(false).
 #[derive(Clone, Copy, PartialEq, Eq, Debug)]
 pub enum Verdict {
     Yes,
@@ -14,20 +15,10 @@ pub enum Verdict {
 }
 
 impl Verdict {
-    // The verdict of a test whose answer is known.
-    pub fn decided(passed: bool) -> Verdict
-        ensures { result ≡ decided passed }
-    {
-        if passed { Verdict::Yes } else { Verdict::No }
-    }
-
     pub fn is_yes(self) -> bool
         ensures { result ≡ is_yes self }
     {
-        match self {
-            Verdict::Yes => true,
-            Verdict::No | Verdict::Unknown => false,
-        }
+        self == Verdict::Yes
     }
 
     // AND as SQL has it.
@@ -39,6 +30,15 @@ impl Verdict {
             (Verdict::Yes, Verdict::Yes) => Verdict::Yes,
             _ => Verdict::Unknown,
         }
+    }
+}
+
+// The verdict of a test whose answer is known.
+impl From<bool> for Verdict {
+    ghost from_gives = { λ passed verdict. verdict ≡ decided passed };
+
+    fn from(passed: bool) -> Verdict {
+        if passed { Verdict::Yes } else { Verdict::No }
     }
 }
 

@@ -22,18 +22,13 @@ pub fn grade(level: i8) -> Option<u8>
     ensures value { result ≡ graded level }
     ensures range { IfSome result (λ g. (1 ≤ g) × (g ≤ 5)) }
 {
-    if level == Reading::NOT_MEASURED {
-        None
-    } else if level >= START_1 {
-        Some(1)
-    } else if level >= START_2 {
-        Some(2)
-    } else if level >= START_3 {
-        Some(3)
-    } else if level >= START_4 {
-        Some(4)
-    } else {
-        Some(5)
+    match level {
+        Reading::NOT_MEASURED => None,
+        START_1.. => Some(1),
+        START_2.. => Some(2),
+        START_3.. => Some(3),
+        START_4.. => Some(4),
+        _ => Some(5),
     }
 }
 
@@ -59,7 +54,7 @@ impl Filter for GradeFilter {
 
     fn ask(&self, _left: &Reading, right: &Reading) -> Verdict {
         match grade(right.level) {
-            Some(g) => Verdict::decided(g <= self.worst),
+            Some(g) => Verdict::from(g <= self.worst),
             None => Verdict::Unknown,
         }
     }

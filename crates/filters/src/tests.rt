@@ -4,12 +4,8 @@ use crate::grade::{GradeFilter, grade};
 use crate::window::WindowFilter;
 use rows::reading::Reading;
 
-fn heard_at(moment: u32) -> Reading {
-    Reading::new(moment, -70, 1)
-}
-
-fn heard_with(level: i8) -> Reading {
-    Reading::new(1000, level, 1)
+fn heard(moment: u32, level: i8) -> Reading {
+    Reading::new(moment, level, 1)
 }
 
 #[test]
@@ -28,7 +24,7 @@ fn grades_start_at_their_levels(rt: HostRuntime) {
 }
 
 fn ask_grade(g: u8, level: i8) -> Verdict {
-    GradeFilter::new(g).ask(&heard_with(0), &heard_with(level))
+    GradeFilter::new(g).ask(&heard(1000, 0), &heard(1000, level))
 }
 
 #[test]
@@ -43,7 +39,7 @@ fn grade_filter_takes_grades_up_to_its_own(rt: HostRuntime) {
 }
 
 fn ask_window(w: u32, left: u32, right: u32) -> Verdict {
-    WindowFilter::new(w).ask(&heard_at(left), &heard_at(right))
+    WindowFilter::new(w).ask(&heard(left, -70), &heard(right, -70))
 }
 
 #[test]
@@ -77,14 +73,11 @@ fn both_filters_ask_for_both(rt: HostRuntime) {
         first: GradeFilter::new(3),
         second: WindowFilter::new(100),
     };
-    let sent = heard_at(2000);
-    assert_eq!(rt; both.ask(&sent, &Reading::new(2010, -60, 1)), Verdict::Yes);
-    assert_eq!(rt; both.ask(&sent, &Reading::new(2040, -95, 1)), Verdict::No);
-    assert_eq!(rt;
-        both.ask(&sent, &Reading::new(2010, -128, 1)),
-        Verdict::Unknown
-    );
-    assert_eq!(rt; both.ask(&sent, &Reading::new(1999, -128, 1)), Verdict::No);
-    assert!(rt; !both.ask(&sent, &Reading::new(2010, -128, 1)).is_yes());
-    assert!(rt; both.ask(&sent, &Reading::new(2100, -84, 1)).is_yes());
+    let sent = heard(2000, -70);
+    assert_eq!(rt; both.ask(&sent, &heard(2010, -60)), Verdict::Yes);
+    assert_eq!(rt; both.ask(&sent, &heard(2040, -95)), Verdict::No);
+    assert_eq!(rt; both.ask(&sent, &heard(2010, -128)), Verdict::Unknown);
+    assert_eq!(rt; both.ask(&sent, &heard(1999, -128)), Verdict::No);
+    assert!(rt; !both.ask(&sent, &heard(2010, -128)).is_yes());
+    assert!(rt; both.ask(&sent, &heard(2100, -84)).is_yes());
 }

@@ -22,8 +22,9 @@ impl WindowFilter {
     fn holds(&self, left: u32, right: u32) -> bool
         ensures { result ≡ in_window self.now.width left right }
     {
-        let delay = i64::from(right) - i64::from(left);
-        delay >= 0 && delay <= i64::from(self.width)
+        right
+            .checked_sub(left)
+            .is_some_and(|delay| delay <= self.width)
     }
 }
 
@@ -31,6 +32,6 @@ impl Filter for WindowFilter {
     ghost says = { λ f left right. decided (in_window f.width left.moment right.moment) };
 
     fn ask(&self, left: &Reading, right: &Reading) -> Verdict {
-        Verdict::decided(self.holds(left.moment, right.moment))
+        Verdict::from(self.holds(left.moment, right.moment))
     }
 }

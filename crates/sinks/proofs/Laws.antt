@@ -1,5 +1,5 @@
 -- What leads a list, a tally and a cap from one value to another, each by induction over the records.
-use Rattle.std.proofs.Common.{◌≡◌, Bool, ltb, List, [], ◌∷◌, sym, ap, ◌∙◌, append_assoc, arith}
+use Rattle.std.proofs.Common.{Bool, ltb, List, [], ◌∷◌, sym, ap, ◌∙◌, append_assoc, arith}
 use Rattle.std.proofs.lemmas.List.{append-nil}
 use Rattle.std.proofs.lemmas.Bool.{and_parts, ltb-true}
 use Rattle.rows.specs.declared.record.Record.{Record}

@@ -2,13 +2,8 @@
 use Rattle.std.specs.Prelude.{◌≡◌, ℕ, ◌+◌, ◌^◌, Bool, List, [], ◌∷◌, nat_lt}
 use Rattle.rows.specs.declared.record.Record.{Record}
 use Rattle.rows.specs.declared.record.Record.TheVariants.{Pair, LeftAlone, RightAlone}
+use Rattle.sinks.specs.declared.tally.Counts.{Counts}
 use Rattle.sinks.specs.Meaning.{Led}
-
--- how many pairs, left rows alone and right rows alone were taken
-pub record Counts : Type 0 where
-  pub pairs : ℕ
-  pub left_alone : ℕ
-  pub right_alone : ℕ
 
 abbrev pub total : Counts → ℕ
 total v = v.pairs + v.left_alone + v.right_alone

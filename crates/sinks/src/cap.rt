@@ -14,6 +14,7 @@ pub struct Cap<S> {
 
 impl<S: Sink> Cap<S> {
     // A cap of n takes.
+    #[tactic(auto, using(crate::proofs::Laws::cap_hands_on))]
     pub fn new(inner: S, n: u64) -> Cap<S>
         ensures made { result ≡ record { inner = inner; left = n } }
         ensures hands_on { CapHandsOn S.Sink.fitting S.Sink.after }
@@ -49,19 +50,13 @@ impl<S: Sink> Sink for Cap<S> {
     ghost after = { capped_after S.Sink.after };
 
     fn fits(&self, x: Record) -> bool {
-        match self.left {
-            0 => false,
-            _ => self.inner.fits(x),
-        }
+        0 < self.left && self.inner.fits(x)
     }
 
     fn take(&mut self, x: Record) -> Result<(), Unfit> {
-        let Cap { inner, left } = self;
-        if *left == 0 {
-            return Err(Unfit);
-        }
-        inner.take(x)?;
-        *left -= 1;
+        let left = self.left.checked_sub(1).ok_or(Unfit)?;
+        self.inner.take(x)?;
+        self.left = left;
         Ok(())
     }
 }

@@ -16,6 +16,7 @@ pub struct RecordList {
 
 impl RecordList {
     // An empty list with room for so many records.
+    #[tactic(auto, using(crate::proofs::Laws::list_grows))]
     pub fn with_room(heap: Global, room: usize) -> Result<RecordList, AllocError>
         ensures empty { IfOk result (λ s. (s.items.items ≡ []) × (s.room ≡ room)) }
         ensures grows { ListGrows }

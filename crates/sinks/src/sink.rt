@@ -9,6 +9,7 @@ use rows::record::Record;
 pub struct Unfit;
 
 impl Unfit {
+    // The rules give each refusal a number.
     pub const NUMBER: u8 = 11;
 
     pub fn number(&self) -> u8
@@ -39,9 +40,11 @@ pub trait Sink {
 }
 
 // Takes the records in sequence, up to the first that does not fit, and answers how many it took.
+#[tactic(auto, using(crate::proofs::Leading::led_next))]
 pub fn take_all<S: Sink>(sink: &mut S, records: &[Record]) -> usize
     ensures { TookFirst S.fitting S.after (S.value sink.old) records.now result (S.value sink.new) }
 {
+    // Not `position`: of a closure that takes into the sink, no clause says what the sink holds afterwards.
     for (i, x) in records.iter().enumerate() {
         if sink.take(*x).is_err() {
             return i;

@@ -1,74 +1,80 @@
-ghost use Rattle.std.specs.Prelude.{◌≡◌, ◌+◌, ◌^◌, ◌<◌, MatchOption};
-ghost use Rattle.sinks.specs.Tallies.{Counts, counted, tally_fits, TallyCounts};
+ghost use Rattle.std.specs.Prelude.{◌≡◌, ◌^◌, ◌<◌, MatchOption};
+ghost use Rattle.sinks.specs.declared.tally.Counts.{Counts as CountsOf};
+ghost use Rattle.sinks.specs.Tallies.{total, counted, tally_fits, TallyCounts};
 
 use crate::sink::{Sink, Unfit};
 use rows::record::Record;
 
+// How many pairs, left rows alone and right rows alone were taken.
+#[derive(Clone, Copy, PartialEq, Eq, Debug, Default)]
+pub struct Counts {
+    pub pairs: u64,
+    pub left_alone: u64,
+    pub right_alone: u64,
+}
+
 // Counts the records taken, by what they hold.
 #[derive(Clone, Copy)]
 pub struct Tally {
-    pairs: u64,
-    left_alone: u64,
-    right_alone: u64,
-    ghost below: { pairs + left_alone + right_alone < 2 ^ 64 },
+    counts: Counts,
+    ghost below: { total counts < 2 ^ 64 },
 }
 
 impl Tally {
     // A tally of nothing.
+    #[tactic(auto, using(crate::proofs::Laws::tally_counts))]
     pub fn new() -> Tally
-        ensures empty { (result.pairs ≡ 0) × (result.left_alone ≡ 0) × (result.right_alone ≡ 0) }
+        ensures empty { result.counts ≡ record { pairs = 0; left_alone = 0; right_alone = 0 } }
         ensures counts { TallyCounts }
     {
         Tally {
-            pairs: 0,
-            left_alone: 0,
-            right_alone: 0,
+            counts: Counts::default(),
         }
     }
 
     // A tally that begins at these counts, none where their total is not below 2^64.
-    pub fn of(pairs: u64, left_alone: u64, right_alone: u64) -> Option<Tally>
-        ensures { MatchOption result (pairs + left_alone + right_alone < 2 ^ 64 → ⊥) (λ t. (t.pairs ≡ pairs) × (t.left_alone ≡ left_alone) × (t.right_alone ≡ right_alone)) }
+    pub fn of(counts: Counts) -> Option<Tally>
+        ensures { MatchOption result (total counts < 2 ^ 64 → ⊥) (λ t. t.counts ≡ counts) }
     {
-        let alone = left_alone.checked_add(right_alone)?;
-        pairs.checked_add(alone)?;
-        Some(Tally {
-            pairs,
-            left_alone,
-            right_alone,
-        })
+        let alone = counts.left_alone.checked_add(counts.right_alone)?;
+        counts.pairs.checked_add(alone)?;
+        Some(Tally { counts })
     }
 
     pub fn pairs(&self) -> u64
-        ensures { result ≡ self.now.pairs }
+        ensures { result ≡ self.now.counts.pairs }
     {
-        self.pairs
+        self.counts.pairs
     }
 
     pub fn left_alone(&self) -> u64
-        ensures { result ≡ self.now.left_alone }
+        ensures { result ≡ self.now.counts.left_alone }
     {
-        self.left_alone
+        self.counts.left_alone
     }
 
     pub fn right_alone(&self) -> u64
-        ensures { result ≡ self.now.right_alone }
+        ensures { result ≡ self.now.counts.right_alone }
     {
-        self.right_alone
+        self.counts.right_alone
     }
 
     pub fn total(&self) -> u64
-        ensures { result ≡ self.now.pairs + self.now.left_alone + self.now.right_alone }
+        ensures { result ≡ total self.now.counts }
     {
-        let alone = self.left_alone + self.right_alone;
-        alone + self.pairs
+        let Counts {
+            pairs,
+            left_alone,
+            right_alone,
+        } = self.counts;
+        pairs + left_alone + right_alone
     }
 }
 
 impl Sink for Tally {
-    ghost Value = { Counts };
+    ghost Value = { CountsOf };
 
-    ghost value = { λ s. record { pairs = s.pairs; left_alone = s.left_alone; right_alone = s.right_alone } };
+    ghost value = { λ s. s.counts };
 
     ghost fitting = { tally_fits };
 
@@ -83,9 +89,9 @@ impl Sink for Tally {
             return Err(Unfit);
         }
         match x {
-            Record::Pair(_, _) => self.pairs += 1,
-            Record::LeftAlone(_) => self.left_alone += 1,
-            Record::RightAlone(_) => self.right_alone += 1,
+            Record::Pair(_, _) => self.counts.pairs += 1,
+            Record::LeftAlone(_) => self.counts.left_alone += 1,
+            Record::RightAlone(_) => self.counts.right_alone += 1,
         }
         Ok(())
     }

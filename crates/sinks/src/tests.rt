@@ -1,7 +1,7 @@
 use crate::cap::Cap;
 use crate::list::RecordList;
 use crate::sink::{Sink, Unfit, take_all};
-use crate::tally::Tally;
+use crate::tally::{Counts, Tally};
 use rows::record::Record;
 use std::test::Fail;
 
@@ -48,14 +48,24 @@ fn tally_counts_up_to_its_limit(rt: HostRuntime) -> Result<(), Fail> {
     assert_eq!(rt; tally.right_alone(), 1);
     assert_eq!(rt; tally.total(), 6);
 
-    let Some(mut near) = Tally::of(1, u64::MAX - 3, 1) else {
+    let counts = Counts {
+        pairs: 1,
+        left_alone: u64::MAX - 3,
+        right_alone: 1,
+    };
+    let Some(mut near) = Tally::of(counts) else {
         return Err(Fail::new("the total is below 2^64"));
     };
     assert_eq!(rt; take_all(&mut near, &[RIGHT, PAIR]), 1);
     assert_eq!(rt; near.total(), u64::MAX);
     assert!(rt; !near.fits(PAIR));
     assert_eq!(rt; near.right_alone(), 2);
-    assert!(rt; Tally::of(1, u64::MAX - 1, 1).is_none());
+    let counts = Counts {
+        pairs: 1,
+        left_alone: u64::MAX - 1,
+        right_alone: 1,
+    };
+    assert!(rt; Tally::of(counts).is_none());
     Ok(())
 }
 
