@@ -12,7 +12,7 @@ use Rattle.rows.specs.declared.row.Row.{Row}
 use Rattle.rows.specs.Order.{is_same}
 use Rattle.merge.specs.Table.{Distinct}
 use Rattle.merge.specs.Members.{Belongs}
-use Rattle.merge.specs.Sides.{streamed_of, buffered_of, left_of, right_of, oriented, is_outer, is_full}
+use Rattle.rows.specs.Sides.{streamed_of, buffered_of, left_of, right_of, oriented, is_outer, is_full}
 use Rattle.merge.specs.Joined.{Asks, lets_through, passes, InTable, joined}
 use Rattle.merge.proofs.Members.{table_only, table_has}
 use Rattle.merge.proofs.Distincts.{table_distinct}

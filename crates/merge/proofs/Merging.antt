@@ -8,7 +8,7 @@ use Rattle.rows.specs.declared.kind.Kind.{Kind}
 use Rattle.rows.specs.declared.record.Record.{Record}
 use Rattle.rows.specs.declared.row.Row.{Row}
 use Rattle.rows.specs.Order.{Laws}
-use Rattle.merge.specs.Sides.{is_right, streamed_of, buffered_of, oriented, is_outer, is_full}
+use Rattle.rows.specs.Sides.{is_right, streamed_of, buffered_of, oriented, is_outer, is_full}
 use Rattle.merge.specs.Joined.{Asks, passes, joined}
 use Rattle.merge.specs.Runs.{Sorted}
 use Rattle.merge.specs.Path.{State, start, to_come}

@@ -6,7 +6,7 @@ use Rattle.rows.specs.declared.kind.Kind.{Kind}
 use Rattle.rows.specs.declared.record.Record.{Record}
 use Rattle.rows.specs.declared.record.Record.TheVariants.{Pair, LeftAlone, RightAlone}
 use Rattle.merge.specs.Table.{Distinct}
-use Rattle.merge.specs.Sides.{is_right, flipped, oriented}
+use Rattle.rows.specs.Sides.{is_right, flipped, oriented}
 
 -- what holds of left and right holds of either side
 pub either_holds : {A : Type 0} (P : A → Type 0) (t : Bool) (a b : A) → P a → P b → P (cond t a b)

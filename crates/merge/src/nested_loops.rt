@@ -3,7 +3,7 @@ ghost use Rattle.std.specs.Prelude.{◌≡◌, ◌^◌, ◌≤◌, ◌++◌, map
 ghost use Rattle.merge.specs.declared.nested_loops.TableError.TheVariants.{Memory};
 ghost use Rattle.merge.specs.Joined.{filter_of, lets_through, passes as rows_pass, joined};
 ghost use Rattle.merge.specs.Places.{RefusesTooLong};
-ghost use Rattle.merge.specs.Sides.{left_of, right_of, is_outer, is_full, oriented as oriented_by};
+ghost use Rattle.rows.specs.Sides.{left_of, right_of, is_outer, is_full, oriented as oriented_by};
 ghost use Rattle.merge.specs.Table.{meets_buffered, meets_streamed, pairs_of, all_pairs, lone_streamed, lone_buffered, table as table_of};
 
 use filters::filter::Filter;

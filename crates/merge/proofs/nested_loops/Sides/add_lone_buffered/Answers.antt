@@ -2,7 +2,7 @@ use Rattle.std.proofs.Common.{not, [], ◌∷◌, ◌++◌, vec_items, refl, ap,
 use Rattle.rows.specs.declared.record.Record.{Record}
 use Rattle.rows.specs.declared.record.Record.TheVariants.{RightAlone}
 use Rattle.merge.specs.Table.{when, meets_streamed, lone_buffered}
-use Rattle.merge.specs.Sides.{oriented}
+use Rattle.rows.specs.Sides.{oriented}
 use Rattle.merge.specs.Joined.{filter_of, passes}
 use Rattle.merge.proofs.Loops.{added_more, added_all, added_if, added_unless}
 use Rattle.merge.proofs.nested_loops.Sides.add_lone_buffered.Goals as goal

@@ -1,6 +1,6 @@
 use Rattle.std.proofs.Common.{◌≡◌, ◌++◌, map, drop, vec_items}
 use Rattle.merge.specs.Table.{lone_streamed}
-use Rattle.merge.specs.Sides.{oriented}
+use Rattle.rows.specs.Sides.{oriented}
 use Rattle.merge.specs.Joined.{filter_of, passes}
 use Rattle.merge.proofs.nested_loops.Sides.add_lone_streamed.Given as goal
 

@@ -1,7 +1,7 @@
 use Rattle.std.proofs.Common.{vec_items, refl}
 use Rattle.std.proofs.lemmas.Result.{IfOk-from_err}
 use Rattle.merge.specs.Table.{pairs_of, all_pairs}
-use Rattle.merge.specs.Sides.{oriented}
+use Rattle.rows.specs.Sides.{oriented}
 use Rattle.merge.specs.Joined.{filter_of, passes}
 use Rattle.merge.proofs.Loops.{added_more, added_all}
 use Rattle.merge.proofs.nested_loops.Sides.add_pairs.Goals as goal

@@ -2,7 +2,7 @@ use Rattle.std.proofs.Common.{[], ◌∷◌, ◌++◌, vec_items, refl, ap, ◌�
 use Rattle.rows.specs.declared.record.Record.{Record}
 use Rattle.rows.specs.declared.record.Record.TheVariants.{Pair}
 use Rattle.merge.specs.Table.{when, pairs_of}
-use Rattle.merge.specs.Sides.{oriented}
+use Rattle.rows.specs.Sides.{oriented}
 use Rattle.merge.specs.Joined.{filter_of, passes}
 use Rattle.merge.proofs.Loops.{added_more, added_all, added_if, added_unless}
 use Rattle.merge.proofs.nested_loops.Sides.add_pairs_of.Goals as goal

@@ -1,7 +1,7 @@
 use Rattle.std.proofs.Common.{List, ◌++◌, map, vec_items, ap, ◌∙◌}
 use Rattle.rows.specs.declared.record.Record.{Record}
 use Rattle.merge.specs.Table.{when, all_pairs, lone_streamed, lone_buffered}
-use Rattle.merge.specs.Sides.{oriented, is_outer, is_full}
+use Rattle.rows.specs.Sides.{oriented, is_outer, is_full}
 use Rattle.merge.specs.Joined.{filter_of, passes}
 use Rattle.merge.proofs.Loops.{added_if, added_unless, added_parts}
 use Rattle.merge.proofs.nested_loops.Sides.table.Goals as goal
