@@ -12,7 +12,7 @@ use Rattle.rows.specs.declared.row.Row.{Row}
 use Rattle.rows.specs.Order.{is_same}
 use Rattle.merge.specs.Table.{Distinct}
 use Rattle.merge.specs.Members.{Belongs}
-use Rattle.merge.specs.Sides.{streamed_of, buffered_of, left_of, right_of, oriented, is_outer, is_full}
+use Rattle.rows.specs.Sides.{streamed_of, buffered_of, left_of, right_of, oriented, is_outer, is_full}
 use Rattle.merge.specs.Joined.{Asks, lets_through, passes, InTable, joined}
 use Rattle.merge.proofs.Members.{table_only, table_has}
 use Rattle.merge.proofs.Distincts.{table_distinct}
@@ -32,34 +32,22 @@ module _ {K : Type 0} (across : K → K → Ordering) (filter : Option Asks) whe
   -- a record that belongs to the table of the sides, written left first, is in the joined table
   pub named : (kind : Kind) (lefts rights : List (Row K)) (r : Record) → Belongs (passes kind across filter) (is_outer kind) (is_full kind) (streamed_of kind lefts rights) (buffered_of kind lefts rights) r
       → InTable kind across filter lefts rights (oriented kind r)
-  named Inner ls rs (Pair i j) h = h
-  named Inner ls rs (LeftAlone i) h = h
-  named Inner ls rs (RightAlone j) h = h
-  named Left ls rs (Pair i j) h = h
-  named Left ls rs (LeftAlone i) h = h
-  named Left ls rs (RightAlone j) h = h
+  named Inner ls rs r h = h
+  named Left ls rs r h = h
   named Right ls rs (Pair i j) h = (h.1, h.0, h.3, h.2, h.4)
   named Right ls rs (LeftAlone i) h = h
   named Right ls rs (RightAlone j) h = h
-  named Full ls rs (Pair i j) h = h
-  named Full ls rs (LeftAlone i) h = h
-  named Full ls rs (RightAlone j) h = h
+  named Full ls rs r h = h
 
   -- and the other way round
   pub sided : (kind : Kind) (lefts rights : List (Row K)) (r : Record) → InTable kind across filter lefts rights r
       → Belongs (passes kind across filter) (is_outer kind) (is_full kind) (streamed_of kind lefts rights) (buffered_of kind lefts rights) (oriented kind r)
-  sided Inner ls rs (Pair i j) h = h
-  sided Inner ls rs (LeftAlone i) h = h
-  sided Inner ls rs (RightAlone j) h = h
-  sided Left ls rs (Pair i j) h = h
-  sided Left ls rs (LeftAlone i) h = h
-  sided Left ls rs (RightAlone j) h = h
+  sided Inner ls rs r h = h
+  sided Left ls rs r h = h
   sided Right ls rs (Pair i j) h = (h.1, h.0, h.3, h.2, h.4)
   sided Right ls rs (LeftAlone i) h = h
   sided Right ls rs (RightAlone j) h = h
-  sided Full ls rs (Pair i j) h = h
-  sided Full ls rs (LeftAlone i) h = h
-  sided Full ls rs (RightAlone j) h = h
+  sided Full ls rs r h = h
 
   module _ (kind : Kind) (lefts rights : List (Row K)) where
     pub joined_only : AllByRecursion (InTable kind across filter lefts rights) (joined kind across filter lefts rights)

@@ -12,4 +12,4 @@ pub mod Sides
 pub mod Joined
 pub mod Sequence
 pub mod Merging
-pub mod Loops
+pub mod Parts

@@ -3,18 +3,19 @@ use Rattle.std.proofs.Common.{◌≡◌, ℕ, List, ◌++◌, map, Option, Order
 use mathlib.Core.List.{map-append}
 use mathlib.Core.List.Permᴰ
 use mathlib.Core.List.{Permᴰ}
+use Rattle.std.proofs.lemmas.Bool.{cond_both}
 use Rattle.std.proofs.lemmas.List.{nil_from_length}
 use Rattle.rows.specs.declared.kind.Kind.{Kind}
 use Rattle.rows.specs.declared.record.Record.{Record}
 use Rattle.rows.specs.declared.row.Row.{Row}
 use Rattle.rows.specs.Order.{Laws}
-use Rattle.merge.specs.Sides.{is_right, streamed_of, buffered_of, oriented, is_outer, is_full}
+use Rattle.rows.specs.Sides.{is_right, streamed_of, buffered_of, oriented, is_outer, is_full}
 use Rattle.merge.specs.Joined.{Asks, passes, joined}
 use Rattle.merge.specs.Runs.{Sorted}
 use Rattle.merge.specs.Path.{State, start, to_come}
 use Rattle.merge.specs.Decided.{Follows}
 use Rattle.merge.specs.Merging.{by_key, outset, side_records, contributed, reached, TableIsWhatBelongs, PathContributesTheTable, DecidedTurnsContributePart, TurnsAreRowsAndRuns, RecordsComeInSequence, MergingYieldsTheJoinedTable}
-use Rattle.merge.proofs.Sides.{either_holds, either_append, either_follows, perm_map}
+use Rattle.merge.proofs.Sides.{either_append, either_follows}
 use Rattle.merge.proofs.Joined.{passes_same, joined_only, joined_has, joined_distinct}
 use Rattle.merge.proofs.Steps.{path_keeps}
 use Rattle.merge.proofs.Counts.{turns_are, rows_are, runs_are, runs_none, ends, path_finishes}
@@ -42,8 +43,8 @@ module _ {K : Type 0} (within across : K → K → Ordering) (laws : Laws within
 
   contributes : (lefts rights : List (Row K)) → PathContributesTheTable within across filter kind lefts rights
   contributes lefts rights h k =
-      shuffled_from_perm (perm_map (oriented kind) (path_finishes (by_key within) (by_key across) (passes kind across filter) (is_outer kind) (is_full kind) (by_key_laws within across laws) (passes_same across filter kind) _ (outset within across filter kind lefts rights)
-      (either_holds sorted (is_right kind) rights lefts k h, either_holds sorted (is_right kind) lefts rights h k) (le_refl _)))
+      shuffled_from_perm (Permᴰ.map (oriented kind) (path_finishes (by_key within) (by_key across) (passes kind across filter) (is_outer kind) (is_full kind) (by_key_laws within across laws) (passes_same across filter kind) _ (outset within across filter kind lefts rights)
+      (cond_both (is_right kind) rights lefts sorted (λ _. k) (λ _. h), cond_both (is_right kind) lefts rights sorted (λ _. h) (λ _. k)) (le_refl _)))
 
   part : DecidedTurnsContributePart within across filter kind
   part ended_left ended_right n lefts rights more_lefts more_rights d fl fr h k =
@@ -55,10 +56,10 @@ module _ {K : Type 0} (within across : K → K → Ordering) (laws : Laws within
       (either_follows Follows (is_right kind) ended_right ended_left more_rights more_lefts fr fl) (either_follows Follows (is_right kind) ended_left ended_right more_lefts more_rights fl fr) n (start s b) d in
       let same : side_records within across filter kind n (lefts ++ more_lefts) (rights ++ more_rights) ≡ side_records within across filter kind n lefts rights = rw (e, f) alike in
       let keeps = path_keeps (by_key within) (by_key across) (passes kind across filter) (by_key_laws within across laws) (passes_same across filter kind) (is_outer kind) (is_full kind) n (outset within across filter kind (lefts ++ more_lefts) (rights ++ more_rights))
-      (either_holds sorted (is_right kind) (rights ++ more_rights) (lefts ++ more_lefts) k h, either_holds sorted (is_right kind) (lefts ++ more_lefts) (rights ++ more_rights) h k) in
+      (cond_both (is_right kind) (rights ++ more_rights) (lefts ++ more_lefts) sorted (λ _. k) (λ _. h), cond_both (is_right kind) (lefts ++ more_lefts) (rights ++ more_rights) sorted (λ _. h) (λ _. k)) in
       let later : List Record = to_come (passes kind across filter) (is_outer kind) (is_full kind) (reached within across filter kind n (lefts ++ more_lefts) (rights ++ more_rights)) in
       let whole : Permᴰ (contributed within across filter kind n lefts rights ++ map (oriented kind) later) (joined kind across filter (lefts ++ more_lefts) (rights ++ more_rights))
-      = rw (← map-append (oriented kind) (side_records within across filter kind n lefts rights) later) (perm_map (oriented kind) (rw same at keeps)) in
+      = rw (← map-append (oriented kind) (side_records within across filter kind n lefts rights) later) (Permᴰ.map (oriented kind) (rw same at keeps)) in
       record {
         belong = all_have _ _ _ whole;
         once = distinct_front _ _ (distinct_perm (Permᴰ.symm whole) (joined_distinct across filter kind (lefts ++ more_lefts) (rights ++ more_rights)));

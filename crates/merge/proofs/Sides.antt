@@ -1,18 +1,13 @@
 -- Records turned round, and what holds of either side.
 use Rattle.std.proofs.Common.{◌≡◌, Bool, true, false, cond, List, [], ◌∷◌, ◌++◌, map, sym, refl, ap, ◌∙◌}
-use mathlib.Core.List.{Permᴰ}
 use Rattle.std.proofs.ByRecursion.{All-weaker, All-map}
 use Rattle.rows.specs.declared.kind.Kind.{Kind}
 use Rattle.rows.specs.declared.record.Record.{Record}
 use Rattle.rows.specs.declared.record.Record.TheVariants.{Pair, LeftAlone, RightAlone}
 use Rattle.merge.specs.Table.{Distinct}
-use Rattle.merge.specs.Sides.{is_right, flipped, oriented}
+use Rattle.rows.specs.Sides.{is_right, flipped, oriented}
 
--- what holds of left and right holds of either side
-pub either_holds : {A : Type 0} (P : A → Type 0) (t : Bool) (a b : A) → P a → P b → P (cond t a b)
-either_holds P true a b h k = h
-either_holds P false a b h k = k
-
+-- what left and right have, either side has
 pub either_append : {A : Type 0} (t : Bool) (a a' b b' : List A) → cond t (a ++ a') (b ++ b') ≡ cond t a b ++ cond t a' b'
 either_append true a a' b b' = refl
 either_append false a a' b b' = refl
@@ -37,9 +32,3 @@ oriented_twice kind r = go (is_right kind)
 pub distinct_oriented : (kind : Kind) (l : List Record) → Distinct l → Distinct (map (oriented kind) l)
 distinct_oriented kind [] h = tt
 distinct_oriented kind (r ∷ l) h = (All-map _ (oriented kind) l (All-weaker _ _ (λ q k e. k (sym (oriented_twice kind r) ∙ ap (oriented kind) e ∙ oriented_twice kind q)) l h.0), distinct_oriented kind l h.1)
-
-pub perm_map : {A B : Type 0} (f : A → B) {a b : List A} → Permᴰ a b → Permᴰ (map f a) (map f b)
-perm_map f Permᴰ.nil = Permᴰ.nil
-perm_map f (Permᴰ.cons e d) = Permᴰ.cons (ap f e) (perm_map f d)
-perm_map f (Permᴰ.swap e e') = Permᴰ.swap (ap f e) (ap f e')
-perm_map f (Permᴰ.trans d d') = Permᴰ.trans (perm_map f d) (perm_map f d')

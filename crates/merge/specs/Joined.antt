@@ -12,7 +12,8 @@ use Rattle.filters.specs.declared.filter.Verdict.{Verdict}
 use Rattle.filters.specs.Verdicts.{is_yes}
 use Rattle.merge.specs.Table.{table}
 use Rattle.merge.specs.Members.{Belongs}
-use Rattle.merge.specs.Sides.{streamed_of, buffered_of, left_of, right_of, oriented, is_outer, is_full, keeps_left, keeps_right}
+use Rattle.rows.specs.Sides.{streamed_of, buffered_of, left_of, right_of, oriented, is_outer, is_full}
+use Rattle.merge.specs.Sides.{keeps_left, keeps_right}
 
 -- what a filter says of a left and a right reading
 abbrev pub Asks : Type 0

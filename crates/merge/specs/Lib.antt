@@ -2,6 +2,7 @@ pub mod Table
 pub mod Members
 pub mod Sides
 pub mod Joined
+pub mod Nested
 pub mod Runs
 pub mod Path
 pub mod Decided

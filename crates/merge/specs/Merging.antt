@@ -7,7 +7,7 @@ use Rattle.rows.specs.declared.kind.Kind.{Kind}
 use Rattle.rows.specs.declared.record.Record.{Record}
 use Rattle.rows.specs.declared.row.Row.{Row}
 use Rattle.merge.specs.Table.{Distinct}
-use Rattle.merge.specs.Sides.{streamed_of, buffered_of, oriented, is_outer, is_full}
+use Rattle.rows.specs.Sides.{streamed_of, buffered_of, oriented, is_outer, is_full}
 use Rattle.merge.specs.Joined.{Asks, passes, InTable, joined}
 use Rattle.merge.specs.Runs.{Sorted, runs}
 use Rattle.merge.specs.Path.{State, start, Move, one_turn, one_row, one_run, left_streamed, left_buffered, path, after, tally}

@@ -1,55 +1,9 @@
--- Left and right, streamed and buffered. The streamed side is the left log, in a right join the right one.
-use Rattle.std.specs.Prelude.{Bool, true, false, cond}
+-- Which rows without a partner a kind of join lists, by left and right.
+use Rattle.std.specs.Prelude.{Bool, true, false}
 use Rattle.rows.specs.declared.kind.Kind.{Kind}
 use Rattle.rows.specs.declared.kind.Kind.TheVariants.{Inner, Left, Right, Full}
-use Rattle.rows.specs.declared.record.Record.{Record}
-use Rattle.rows.specs.declared.record.Record.TheVariants.{Pair, LeftAlone, RightAlone}
 
-abbrev pub is_right : Kind → Bool
-is_right Inner = false
-is_right Left = false
-is_right Right = true
-is_right Full = false
-
--- what the sides have, of what left and right have
-abbrev pub streamed_of : {A : Type 0} → Kind → (left right : A) → A
-streamed_of kind l r = cond (is_right kind) r l
-
-abbrev pub buffered_of : {A : Type 0} → Kind → (left right : A) → A
-buffered_of kind l r = cond (is_right kind) l r
-
--- what left and right have, of what the sides have
-abbrev pub left_of : {A : Type 0} → Kind → (streamed buffered : A) → A
-left_of kind x y = cond (is_right kind) y x
-
-abbrev pub right_of : {A : Type 0} → Kind → (streamed buffered : A) → A
-right_of kind x y = cond (is_right kind) x y
-
--- the record with its sides swapped
-abbrev pub flipped : Record → Record
-flipped (Pair i j) = Pair j i
-flipped (LeftAlone i) = RightAlone i
-flipped (RightAlone j) = LeftAlone j
-
--- the record of the table, of one that names the streamed row as its left one
-abbrev pub oriented : Kind → Record → Record
-oriented kind r = cond (is_right kind) (flipped r) r
-
--- Streamed rows without a partner are listed in outer joins: left, right and full ones.
-abbrev pub is_outer : Kind → Bool
-is_outer Inner = false
-is_outer Left = true
-is_outer Right = true
-is_outer Full = true
-
--- Buffered rows without a partner are listed in full joins.
-abbrev pub is_full : Kind → Bool
-is_full Inner = false
-is_full Left = false
-is_full Right = false
-is_full Full = true
-
--- So left rows without a partner are listed in left and full joins, and right ones in right and full joins.
+-- Left rows are listed in left and full joins, right ones in right and full joins.
 abbrev pub keeps_left : Kind → Bool
 keeps_left Inner = false
 keeps_left Left = true

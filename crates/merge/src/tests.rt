@@ -1,7 +1,7 @@
 // The examples of specs/Examples, run over the nested loops.
-ghost use Rattle.std.specs.Prelude.{◌≡◌, if◌then◌else◌, nat_lt};
+ghost use Rattle.std.specs.Prelude.{if◌then◌else◌, nat_lt};
 ghost use Rattle.filters.specs.declared.filter.Verdict.TheVariants.{Yes, No};
-ghost use Rattle.merge.specs.Numbers.{by_number, numbers_within, numbers_across};
+ghost use Rattle.merge.specs.Numbers.{numbers_within, numbers_across};
 ghost use Rattle.merge.specs.NumberLaws.{numbers_lawful};
 
 use crate::nested_loops::joined_table;
@@ -19,18 +19,6 @@ use std::test::Fail;
 #[derive(Clone, Copy)]
 struct Numbers;
 
-fn compare(a: u8, b: u8) -> Ordering
-    ensures { result ≡ by_number a b }
-{
-    if a < b {
-        Ordering::Less
-    } else if a == b {
-        Ordering::Equal
-    } else {
-        Ordering::Greater
-    }
-}
-
 impl KeyOrder for Numbers {
     type Key = Option<u8>;
 
@@ -41,19 +29,14 @@ impl KeyOrder for Numbers {
     ghost lawful = { λ _. numbers_lawful };
 
     fn compare_within(&self, a: &Option<u8>, b: &Option<u8>) -> Ordering {
-        match (*a, *b) {
-            (None, None) => Ordering::Equal,
-            (None, Some(_)) => Ordering::Less,
-            (Some(_), None) => Ordering::Greater,
-            (Some(x), Some(y)) => compare(x, y),
-        }
+        a.cmp(b)
     }
 
     fn compare_across(&self, streamed: &Option<u8>, buffered: &Option<u8>) -> Ordering {
-        match (*streamed, *buffered) {
+        match (streamed, buffered) {
             (None, _) => Ordering::Less,
             (Some(_), None) => Ordering::Greater,
-            (Some(x), Some(y)) => compare(x, y),
+            (Some(x), Some(y)) => x.cmp(y),
         }
     }
 }
@@ -81,27 +64,15 @@ fn row(key: Option<u8>, moment: u32) -> Row<Option<u8>> {
     }
 }
 
-fn plain(
+fn joins_to(
     rt: &(impl Abort + AllocGlobal),
     kind: Kind,
+    filter: Option<NotBefore>,
     left: &[Row<Option<u8>>],
     right: &[Row<Option<u8>>],
     expected: &[Record],
 ) -> Result<(), Fail> {
-    let filter: Option<NotBefore> = None;
     let table = joined_table(rt.alloc(), kind, &Numbers, &filter, left, right)?;
-    assert!(rt; table.as_slice() == expected);
-    Ok(())
-}
-
-fn filtered(
-    rt: &(impl Abort + AllocGlobal),
-    kind: Kind,
-    left: &[Row<Option<u8>>],
-    right: &[Row<Option<u8>>],
-    expected: &[Record],
-) -> Result<(), Fail> {
-    let table = joined_table(rt.alloc(), kind, &Numbers, &Some(NotBefore), left, right)?;
     assert!(rt; table.as_slice() == expected);
     Ok(())
 }
@@ -109,9 +80,10 @@ fn filtered(
 #[test]
 fn two_missing_keys_match_nothing(rt: HostRuntime) -> Result<(), Fail> {
     let missing = [row(None, 0)];
-    plain(
+    joins_to(
         &rt,
         Kind::Full,
+        None,
         &missing,
         &missing,
         &[Record::LeftAlone(0), Record::RightAlone(0)],
@@ -121,30 +93,34 @@ fn two_missing_keys_match_nothing(rt: HostRuntime) -> Result<(), Fail> {
 #[test]
 fn a_row_against_a_run_of_three(rt: HostRuntime) -> Result<(), Fail> {
     let run = [row(Some(5), 10), row(Some(5), 20), row(Some(5), 30)];
-    plain(
+    joins_to(
         &rt,
         Kind::Left,
+        None,
         &[row(Some(5), 0)],
         &run,
         &[Record::Pair(0, 0), Record::Pair(0, 1), Record::Pair(0, 2)],
     )?;
-    filtered(
+    joins_to(
         &rt,
         Kind::Left,
+        Some(NotBefore),
         &[row(Some(5), 15)],
         &run,
         &[Record::Pair(0, 1), Record::Pair(0, 2)],
     )?;
-    filtered(
+    joins_to(
         &rt,
         Kind::Left,
+        Some(NotBefore),
         &[row(Some(5), 99)],
         &run,
         &[Record::LeftAlone(0)],
     )?;
-    filtered(
+    joins_to(
         &rt,
         Kind::Full,
+        Some(NotBefore),
         &[row(Some(5), 99)],
         &run,
         &[
@@ -158,21 +134,23 @@ fn a_row_against_a_run_of_three(rt: HostRuntime) -> Result<(), Fail> {
 
 #[test]
 fn an_empty_log_on_either_side(rt: HostRuntime) -> Result<(), Fail> {
-    plain(
+    joins_to(
         &rt,
         Kind::Full,
+        None,
         &[row(Some(5), 0)],
         &[],
         &[Record::LeftAlone(0)],
     )?;
-    plain(
+    joins_to(
         &rt,
         Kind::Full,
+        None,
         &[],
         &[row(Some(5), 0)],
         &[Record::RightAlone(0)],
     )?;
-    plain(&rt, Kind::Full, &[], &[], &[])
+    joins_to(&rt, Kind::Full, None, &[], &[], &[])
 }
 
 #[test]
@@ -189,10 +167,18 @@ fn all_four_kinds(rt: HostRuntime) -> Result<(), Fail> {
         row(Some(2), 20),
         row(Some(3), 0),
     ];
-    filtered(&rt, Kind::Inner, &left, &right, &[Record::Pair(1, 2)])?;
-    filtered(
+    joins_to(
+        &rt,
+        Kind::Inner,
+        Some(NotBefore),
+        &left,
+        &right,
+        &[Record::Pair(1, 2)],
+    )?;
+    joins_to(
         &rt,
         Kind::Left,
+        Some(NotBefore),
         &left,
         &right,
         &[
@@ -202,9 +188,10 @@ fn all_four_kinds(rt: HostRuntime) -> Result<(), Fail> {
             Record::LeftAlone(3),
         ],
     )?;
-    filtered(
+    joins_to(
         &rt,
         Kind::Right,
+        Some(NotBefore),
         &left,
         &right,
         &[
@@ -214,9 +201,10 @@ fn all_four_kinds(rt: HostRuntime) -> Result<(), Fail> {
             Record::RightAlone(3),
         ],
     )?;
-    filtered(
+    joins_to(
         &rt,
         Kind::Full,
+        Some(NotBefore),
         &left,
         &right,
         &[
