@@ -90,23 +90,20 @@ impl BufferedData {
     pub fn leaving(&self) -> usize
         ensures { result ≡ length (leaving (holding self.now).batches) }
     {
-        for (i, batch) in self.batches[..self.count].iter().enumerate() {
-            if !batch.is_consumed() {
-                return i;
-            }
-        }
-        self.count
+        self.batches[..self.count]
+            .iter()
+            .position(|batch| !batch.is_consumed())
+            .unwrap_or(self.count)
     }
 
     // The rows of the first k batches, or of all where they are fewer.
     pub fn rows_of(&self, k: usize) -> usize
         ensures { result ≡ rows_of (take k (holding self.now).batches) }
     {
-        let mut rows = 0;
-        for batch in &self.batches[..k.min(self.count)] {
-            rows += batch.rows as usize;
-        }
-        rows
+        self.batches[..k.min(self.count)]
+            .iter()
+            .map(|batch| batch.rows as usize)
+            .sum()
     }
 
     // The first k batches are no longer held, and the rows after them move to the table's start; refused where there are not

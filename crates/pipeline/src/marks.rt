@@ -33,10 +33,7 @@ impl States {
     pub fn get(&self, i: usize) -> Option<FilterState>
         ensures { result ≡ state_at i (states_of self.now) }
     {
-        if i < self.len {
-            return Some(self.cells[i]);
-        }
-        None
+        self.cells[..self.len].get(i).copied()
     }
 
     // A verdict on a pair of the row; of a row that is not held it changes nothing.
@@ -56,10 +53,9 @@ impl States {
         if rows > Self::MOST - self.len {
             return Err(Refused);
         }
-        for i in 0..rows {
-            self.cells[self.len + i] = FilterState::Unvisited;
-        }
-        self.len += rows;
+        let end = self.len + rows;
+        self.cells[self.len..end].fill(FilterState::Unvisited);
+        self.len = end;
         Ok(())
     }
 

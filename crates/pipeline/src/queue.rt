@@ -16,8 +16,9 @@ use rows::kind::Kind;
 use rows::record::Record;
 
 // How the block is used: frozen entries from its front, the unfrozen after them, noted buffered rows from its end downwards,
-// the oldest last. While records are due, `due` entries from `next` on hold them, and nothing is frozen or unfrozen.
-#[derive(Clone, Copy, PartialEq, Eq, Debug)]
+// the oldest last. While records are due, `due` entries from `next` on hold them, and nothing is frozen or unfrozen. The block is
+// the caller's between calls, so every method takes it.
+#[derive(Clone, Copy, PartialEq, Eq, Debug, Default)]
 pub struct Queue {
     pub next: usize,
     pub due: usize,
@@ -34,13 +35,7 @@ impl Queue {
         ensures holds { (block : List EntryOf) → queued result block ≡ empty }
         ensures roomy { (block : List EntryOf) → Roomy result block }
     {
-        Queue {
-            next: 0,
-            due: 0,
-            frozen: 0,
-            unfrozen: 0,
-            noted: 0,
-        }
+        Queue::default()
     }
 
     // Whether a record is due.
