@@ -1,20 +1,13 @@
 -- The states of the rows held, which stand in the first cells.
-use Rattle.std.proofs.Common.{◌≡◌, ℕ, zero, suc, ◌<◌, ◌≤◌, Bool, List, [], ◌∷◌, length, get_or, take, set, Some, None, refl, ap, arith}
+use Rattle.std.proofs.Common.{◌≡◌, ℕ, zero, suc, ◌<◌, ◌≤◌, Bool, List, [], ◌∷◌, get_or, take, set, refl, ap, arith}
+use Rattle.std.specs.List.{slice_get}
 use Rattle.pipeline.specs.declared.states.FilterState.{FilterState}
 use Rattle.pipeline.specs.States.{state_at, marked, mark_at}
 
-pub state_at_below : (l : List FilterState) (n i : ℕ) (d : FilterState) → i < n → i < length l → state_at i (take n l) ≡ Some (get_or l i d)
-state_at_below [] n i d h k = absurd (omega arith)
-state_at_below (x ∷ l) zero i d h k = absurd (omega arith)
-state_at_below (x ∷ l) (suc n) zero d h k = refl
-state_at_below (x ∷ l) (suc n) (suc i) d h k = state_at_below l n i d (omega arith) (omega arith)
-
-pub state_at_past : (l : List FilterState) (n i : ℕ) → n ≤ i → state_at i (take n l) ≡ None
-state_at_past [] zero i h = refl
-state_at_past [] (suc n) i h = refl
-state_at_past (x ∷ l) zero i h = refl
-state_at_past (x ∷ l) (suc n) zero h = absurd (omega arith)
-state_at_past (x ∷ l) (suc n) (suc i) h = state_at_past l n i (omega arith)
+pub state_at_get : (l : List FilterState) (i : ℕ) → slice_get l i ≡ state_at i l
+state_at_get [] i = refl
+state_at_get (x ∷ l) zero = refl
+state_at_get (x ∷ l) (suc i) = state_at_get l i
 
 pub mark_at_below : (l : List FilterState) (n i : ℕ) (v : Bool) (d : FilterState) → i < n → take n (set l i (marked v (get_or l i d))) ≡ mark_at i v (take n l)
 mark_at_below [] zero i v d h = refl

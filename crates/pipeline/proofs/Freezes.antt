@@ -1,9 +1,11 @@
 -- Freezing entry by entry, in place.
-use Rattle.std.proofs.Common.{◌≡◌, ℕ, ◌+◌, ◌-◌, ◌<◌, ◌≤◌, Bool, List, [], ◌∷◌, ◌++◌, length, get_or, take, drop, set, None, Option, sym, ap, ◌∙◌, append_assoc, append-nil, arith}
-use Rattle.std.proofs.lemmas.List.{take_more_set, drop-set-lt, at_drop_more, at_drop_all, set-get_or, take_all}
+use Rattle.std.proofs.Common.{◌≡◌, ℕ, ◌+◌, ◌-◌, ◌<◌, ◌≤◌, Bool, true, false, is_some, Some, refl, List, [], ◌∷◌, ◌++◌, length, get_or, take, drop, set, None, Option, sym, ap, ◌∙◌, append_assoc, append-nil, arith}
+use Rattle.std.proofs.lemmas.List.{take_more_set, drop-set-lt, at_drop_more, at_drop_all, take_all}
+use Rattle.std.proofs.lemmas.Bool.{false≢true}
 use Rattle.rows.specs.declared.kind.Kind.{Kind}
 use Rattle.rows.specs.declared.reading.Reading.{Reading}
 use Rattle.pipeline.specs.declared.entry.Entry.{Entry}
+use Rattle.pipeline.specs.declared.entry.StreamedRow.{StreamedRow}
 use Rattle.pipeline.specs.declared.states.FilterState.{FilterState}
 use Rattle.pipeline.specs.Orient.{buffered_place}
 use Rattle.pipeline.specs.States.{mark_verdict, marking}
@@ -11,6 +13,14 @@ use Rattle.pipeline.specs.Freezing.{verdict_of, judged, judged_all}
 
 abbrev pub with_verdict : Option Bool → Entry → Entry
 with_verdict v e = record { row = e.row; verdict = v; «record» = e.«record»; left = e.left; right = e.right }
+
+pub some_of : (r : Option StreamedRow) → is_some r ≡ true → (at : StreamedRow) × (r ≡ Some at)
+some_of None e = absurd (false≢true e)
+some_of (Some at) e = (at, refl)
+
+pub none_of : (r : Option StreamedRow) → is_some r ≡ false → r ≡ None
+none_of None e = refl
+none_of (Some at) e = absurd (false≢true (sym e))
 
 module _ (asks : Reading → Reading → Bool) (xs : List Entry) (i : ℕ) where
   -- xs is judged before i; one entry more is judged
@@ -34,10 +44,10 @@ module _ (asks : Reading → Reading → Bool) (xs : List Entry) (i : ℕ) where
         ∙ sym (at_drop_more (λ l. marking kind base (judged_all asks l) s) xs i d h) ∙ inv
 
   -- a lone row is judged as it is
-  pub judged_lone : (d : Entry) → (get_or xs i d).row ≡ None → xs ≡ set xs i (judged asks (get_or xs i d))
+  pub judged_lone : (d : Entry) → (get_or xs i d).row ≡ None → set xs i (get_or xs i d) ≡ set xs i (judged asks (get_or xs i d))
   judged_lone d none =
       let e = get_or xs i d in
-      sym (set-get_or xs i d) ∙ ap (λ r. set xs i (with_verdict (verdict_of r e.verdict (asks e.left e.right)) e)) (sym none)
+      ap (λ r. set xs i (with_verdict (verdict_of r e.verdict (asks e.left e.right)) e)) (sym none)
 
   pub judged_end : (whole : List Entry) → length xs ≤ i → take i xs ++ judged_all asks (drop i xs) ≡ whole → xs ≡ whole
   judged_end whole h inv =

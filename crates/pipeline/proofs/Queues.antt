@@ -1,5 +1,5 @@
 -- The numbers of the queue over the block, and what they show.
-use Rattle.std.proofs.Common.{◌≡◌, ℕ, zero, suc, ◌+◌, ◌-◌, ◌<◌, ◌≤◌, Bool, true, false, cond, ◌&&◌, eqb, ltb, leb, List, [], ◌∷◌, ◌++◌, reverse, length, get_or, take, drop, set, sym, refl, ap, ◌∙◌, subst, ⊎_elim, append_assoc, arith, take-add}
+use Rattle.std.proofs.Common.{◌≡◌, ℕ, zero, suc, ◌+◌, ◌-◌, ◌<◌, ◌≤◌, Bool, true, false, cond, ◌&&◌, eqb, ltb, leb, List, [], ◌∷◌, ◌++◌, reverse, length, get_or, take, drop, set, sym, refl, ap, ◌∙◌, subst, ⊎_elim, Result, Ok, append_assoc, arith, take-add}
 use borrow.Rule.Slice.PartMut.{put_mid, same_len_mid}
 use Rattle.std.proofs.lemmas.List.{length-set, length-take, length-take-le, length-drop, length-append, length-reverse, take-take, drop-take, drop-drop, drop-set-lt, drop-set-add, drop-set, take-set-le, take_more_set, take-append-le, take_at, drop_at, reverse-append, reverse-reverse, drop_more, drop_all}
 use Rattle.std.proofs.lemmas.Slice.{take-put_mid, take-put_mid_below, drop-put_mid}
@@ -9,6 +9,7 @@ use Rattle.rows.specs.declared.reading.Reading.{Reading}
 use Rattle.rows.specs.declared.record.Record.{Record}
 use Rattle.pipeline.specs.declared.entry.Entry.{Entry}
 use Rattle.pipeline.specs.declared.queue.Queue.{Queue}
+use Rattle.pipeline.specs.declared.refused.Refused.{Refused}
 use Rattle.pipeline.specs.Entries.{lone}
 use Rattle.pipeline.specs.Orient.{buffered_alone}
 use Rattle.pipeline.specs.declared.states.FilterState.{FilterState}
@@ -27,7 +28,7 @@ same_queued {n} {n'} {u} {u'} {f} {f'} {d} {d'} en eu ef ed =
 
 -- a step that is made
 pub done : {possible : Bool} {step : Queued → Queued} {q q' : Queue} {block block' : List Entry} → possible ≡ true
-    → queued q' block' ≡ step (queued q block) → (Roomy q block → Roomy q' block') → Step possible step q block true q' block'
+    → queued q' block' ≡ step (queued q block) → (Roomy q block → Roomy q' block') → Step possible step q block (Ok tt) q' block'
 done can holds room = record {
   answers = sym can;
   made = λ _. holds;
@@ -96,7 +97,7 @@ gap_write q block ys at k none long from to =
 module _ (q : Queue) (block : List Entry) where
   -- one entry is written behind the unfrozen
   pub push_step : (e : Entry) → has_room 1 q block ≡ true
-      → Step (has_room 1 q block) (pushed (e ∷ [])) q block true
+      → Step (has_room 1 q block) (pushed (e ∷ [])) q block (Ok tt)
       (record { next = q.next; due = q.due; frozen = q.frozen; unfrozen = q.unfrozen + 1; noted = q.noted }) (set block (q.frozen + q.unfrozen) e)
   push_step e room =
       let at = q.frozen + q.unfrozen in
@@ -114,7 +115,7 @@ module _ (q : Queue) (block : List Entry) where
 
   -- n entries behind the unfrozen become unfrozen
   pub add_step : (n : ℕ) → has_room n q block ≡ true
-      → Step (has_room n q block) (pushed (take n (drop (q.frozen + q.unfrozen) block))) q block true
+      → Step (has_room n q block) (pushed (take n (drop (q.frozen + q.unfrozen) block))) q block (Ok tt)
       (record { next = q.next; due = q.due; frozen = q.frozen; unfrozen = q.unfrozen + n; noted = q.noted }) block
   add_step n room =
       let fits = (room_parts n q block room).1 in
@@ -155,7 +156,7 @@ pub due_step : (step : Queued → Queued) (q q' : Queue) (block ys left : List E
     → (eqb q.unfrozen 0 && has_room 0 q block) ≡ true → k ≡ q.frozen → length ys ≡ length (take k block) → take r ys ≡ left → r ≡ length left
     → step (queued q block) ≡ record { noted = (queued q block).noted; unfrozen = (queued q block).unfrozen; frozen = []; due = records left }
     → q' ≡ record { next = 0; due = r; frozen = 0; unfrozen = q.unfrozen; noted = q.noted }
-    → Step (eqb q.unfrozen 0 && has_room 0 q block) step q block true q' (put_mid 0 k block ys)
+    → Step (eqb q.unfrozen 0 && has_room 0 q block) step q block (Ok tt) q' (put_mid 0 k block ys)
 due_step step q q' block ys left r k can all same front count is numbers =
     let both = and_parts (eqb q.unfrozen 0) (has_room 0 q block) can in
     let none = eqb-true q.unfrozen 0 both.0 in
@@ -182,7 +183,7 @@ length_judged asks (e ∷ es) = ap suc (length_judged asks es)
 -- the unfrozen, judged, stand in their place
 pub freeze_step : (asks : Reading → Reading → Bool) (q : Queue) (block block' ys : List Entry) (k : ℕ) → has_room 0 q block ≡ true → k ≡ q.unfrozen
     → ys ≡ judged_all asks (take k (drop q.frozen block)) → block' ≡ put_mid q.frozen k block ys
-    → Step (has_room 0 q block) (freeze asks) q block true (record { next = q.next; due = q.due; frozen = q.frozen + q.unfrozen; unfrozen = 0; noted = q.noted }) block'
+    → Step (has_room 0 q block) (freeze asks) q block (Ok tt) (record { next = q.next; due = q.due; frozen = q.frozen + q.unfrozen; unfrozen = 0; noted = q.noted }) block'
 freeze_step asks q block block' ys k room all made is =
     let parts = room_parts 0 q block room in
     let none = parts.0 in
@@ -248,7 +249,7 @@ module _ (q : Queue) (block block' : List Entry) (none : q.due ≡ 0) (fits : q.
       (ap (take (q.frozen + q.noted)) split ∙ take_at (frozen_part ++ noted_part) (unfrozen_part ++ rest_part) (q.frozen + q.noted) long_an)
       (none_due (drop q.next block') none)
 
-  pub freeze_all_step : (asks : Reading → Reading → Bool) (r : Bool) (q₂ : Queue) (block₂ : List Entry)
+  pub freeze_all_step : (asks : Reading → Reading → Bool) (r : Result (Unit {0}) Refused) (q₂ : Queue) (block₂ : List Entry)
       → Step (has_room 0 brought block') (freeze asks) brought block' r q₂ block₂ → Step (has_room 0 q block) (freeze_all asks) q block r q₂ block₂
   freeze_all_step asks r q₂ block₂ step =
       let can : has_room 0 q block ≡ true = room_from 0 q block none (omega arith) in
@@ -310,7 +311,7 @@ pub leave_step : (kind : Kind) (full : Bool) (j n keep : ℕ) (states : List Fil
     → drop (length block - (q.noted - out)) block₁ ≡ reverse (drop out (queued q block).noted)
     → length ys ≡ length (take k (drop (q.frozen + out) block₁)) → r ≤ length (take k (drop (q.frozen + out) block₁))
     → take r ys ≡ take (length (take k (drop (q.frozen + out) block₁))) (failed kind j states)
-    → Step (can_leave full j n keep q block) (leave kind full j n keep states) q block true
+    → Step (can_leave full j n keep q block) (leave kind full j n keep states) q block (Ok tt)
     (record { next = q.next; due = q.due; frozen = q.frozen + out + r; unfrozen = q.unfrozen; noted = q.noted - out }) (put_mid (q.frozen + out) k block₁ ys)
 leave_step kind full j n keep states q block block₁ ys out most k r can is_out is_most is_k long₁ front back same fewer writes =
     let tests = and_parts (eqb q.unfrozen 0) (leb (j + n) places && has_room (cond full (n - (q.noted - keep)) 0) q block) can in

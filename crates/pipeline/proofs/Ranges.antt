@@ -1,10 +1,16 @@
 -- The batches held, which are the first of an array: changes of the last one, sums of their rows, which of them leave.
-use Rattle.std.proofs.Common.{◌≡◌, ℕ, zero, suc, ◌+◌, ◌-◌, ◌<◌, ◌≤◌, min, Bool, true, false, cond, ◌&&◌, ltb, leb, List, [], ◌∷◌, ◌++◌, length, get_or, take, drop, set, sym, refl, ap, ◌∙◌, add-zero, arith, get_or-take}
-use Rattle.std.proofs.lemmas.List.{length-take, take_more, at_drop_more, at_drop_all}
+use Rattle.std.proofs.Common.{◌≡◌, ℕ, zero, suc, ◌+◌, ◌-◌, ◌<◌, ◌≤◌, min, Bool, true, false, cond, ◌&&◌, ltb, leb, List, [], ◌∷◌, ◌++◌, length, get_or, take, drop, set, Option, sym, refl, ap, ◌∙◌, arith, get_or-take}
+use Rattle.std.proofs.lemmas.List.{length-take, take_more}
+use Rattle.std.proofs.lemmas.Iterator.{index_from_first}
+use Rattle.std.proofs.lemmas.List.Sums.{sum_by-cons}
+use Rattle.std.specs.List.{AllWithin, HoldsAt, sum_by}
+use Rattle.std.specs.Option.{MatchOption, unwrap_or}
 use Rattle.std.proofs.lemmas.Bool.{lt-ltb, le-leb, and_from, and_right}
 use Rattle.pipeline.specs.declared.batch.BufferedBatch.{BufferedBatch}
+use Rattle.pipeline.specs.declared.held.BufferedData.{BufferedData}
 use Rattle.pipeline.specs.Batches.{rows_of}
 use Rattle.pipeline.specs.Held.{Holding, on_last, tail_end, most_end, can_push, can_extend, can_seed, can_dequeue, is_consumed, leaving}
+use Rattle.pipeline.proofs.Fronts.{take_least}
 
 abbrev pub with_batches : Holding → List BufferedBatch → Holding
 with_batches h l = record { batches = l; base = h.base; held = h.held; start = h.start; end = h.end; matched = h.matched }
@@ -94,21 +100,22 @@ rows_more l m j r d h e =
     ap (λ n. n + (get_or (take m l) j d).rows) e ∙ ap (λ (b : BufferedBatch). rows_of (take j l) + b.rows) (get_or-take m l j d (omega arith))
     ∙ sym (rows_of_push (take j l) (get_or l j d)) ∙ ap rows_of (sym (take_more l j d (omega arith)))
 
-pub counted : (i a b n : ℕ) → a ≡ suc b → i + a ≡ n → (i + 1) + b ≡ n
-counted i a b n e f = omega arith
+rows_of_from : (l : List BufferedBatch) → rows_of l ≡ sum_by (λ b. b.rows) l
+rows_of_from [] = refl
+rows_of_from (x ∷ l) = ap (λ n. x.rows + n) (rows_of_from l) ∙ sym (sum_by-cons (λ (b : BufferedBatch). b.rows) x l)
 
--- how many batches leave: n is the number, i the batches met
-module _ (l : List BufferedBatch) (i n : ℕ) (inv : i + length (leaving (drop i l)) ≡ n) where
-  stops_at : length (leaving (drop i l)) ≡ 0 → i ≡ n
-  stops_at e = sym (add-zero i) ∙ ap (λ m. i + m) (sym e) ∙ inv
+-- the sum over the first k, or over all where they are fewer
+pub rows_of_least : (s : BufferedData) (k m : ℕ) → m ≡ min k s.count → sum_by (λ (b : BufferedBatch). b.rows) (take m s.batches) ≡ rows_of (take k (take s.count s.batches))
+rows_of_least s k m e =
+    sym (rows_of_from (take m s.batches)) ∙ ap (λ j. rows_of (take j s.batches)) e ∙ ap rows_of (take_least s.batches k s.count)
 
-  pub leaving_stops : (d : BufferedBatch) → i < length l → false ≡ is_consumed (get_or l i d) → i ≡ n
-  leaving_stops d h e = stops_at (at_drop_more (λ t. length (leaving t)) l i d h ∙ ap (λ t. length (cond t (get_or l i d ∷ leaving (drop (i + 1) l)) [])) (sym e))
-
-  pub leaving_more : (d : BufferedBatch) → i < length l → true ≡ is_consumed (get_or l i d) → (i + 1) + length (leaving (drop (i + 1) l)) ≡ n
-  leaving_more d h e =
-      let one : length (leaving (drop i l)) ≡ suc (length (leaving (drop (i + 1) l))) = at_drop_more (λ t. length (leaving t)) l i d h ∙ ap (λ t. length (cond t (get_or l i d ∷ leaving (drop (i + 1) l)) [])) (sym e) in
-      counted i (length (leaving (drop i l))) (length (leaving (drop (i + 1) l))) n one inv
-
-  pub leaving_all : length l ≤ i → i ≡ n
-  leaving_all h = stops_at (at_drop_all (λ t. length (leaving t)) l i h)
+-- how many batches leave: those before the first that is not consumed
+pub leaving_first : (l : List BufferedBatch) (r : Option ℕ)
+    → MatchOption r (AllWithin (λ b. is_consumed b ≡ true) l 0 (length l)) (λ i. (i < length l) × HoldsAt (λ b. is_consumed b ≡ false) l i × AllWithin (λ b. is_consumed b ≡ true) l 0 i)
+    → length (leaving l) ≡ unwrap_or r (length l)
+leaving_first = index_from_first (λ l. length (leaving l)) (λ b. is_consumed b ≡ false) (λ b. is_consumed b ≡ true) refl
+    (λ b l e. ap (λ t. length (cond t (b ∷ leaving l) [])) e)
+    (λ b l e. ap (λ t. length (cond t (b ∷ leaving l) [])) e ∙ one_more (length (leaving l)))
+  where
+    one_more : (n : ℕ) → suc n ≡ n + 1
+    one_more n = omega arith

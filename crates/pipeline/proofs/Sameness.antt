@@ -1,10 +1,13 @@
 -- Rows whose keys are same within as a given key.
-use Rattle.std.proofs.Common.{◌≡◌, ℕ, suc, ◌+◌, ◌<◌, ◌≤◌, false, cond, List, [], ◌∷◌, ◌++◌, length, get_or, take, drop, Ordering, Less, Equal, Greater, sym, refl, ap, ◌∙◌, subst, add-zero, zero-add, arith}
-use Rattle.std.proofs.lemmas.List.{at_drop_more, at_drop_all}
+use Rattle.std.proofs.Common.{◌≡◌, ℕ, suc, ◌+◌, ◌<◌, true, false, cond, List, [], ◌∷◌, ◌++◌, length, take, drop, Ordering, Less, Equal, Greater, Option, sym, refl, ap, ◌∙◌, subst, zero-add, arith}
+use Rattle.std.proofs.lemmas.Iterator.{index_from_first}
+use Rattle.std.specs.List.{AllWithin, HoldsAt}
+use Rattle.std.specs.Option.{MatchOption, unwrap_or}
+use Rattle.std.specs.Ordering.{is_ne}
+use Rattle.std.proofs.lemmas.Bool.{false≢true}
 use Rattle.rows.specs.declared.row.Row.{Row}
 use Rattle.rows.specs.Order.{is_same}
 use Rattle.pipeline.specs.Held.{same_run, AllSame, Differs, GoesOn}
-use Rattle.pipeline.proofs.Ranges.{counted}
 
 module _ {K : Type 0} (within : K → K → Ordering) (key : K) where
   abbrev run : List (Row K) → ℕ
@@ -49,20 +52,25 @@ module _ {K : Type 0} (within : K → K → Ordering) (key : K) where
         omega arith
     go rest Greater e = ends (ap is_same e)
 
-  -- n is the number of them, i the rows met
-  module _ (l : List (Row K)) (i n : ℕ) (inv : i + run (drop i l) ≡ n) where
-    stops_at : run (drop i l) ≡ 0 → i ≡ n
-    stops_at e = sym (add-zero i) ∙ ap (λ m. i + m) (sym e) ∙ inv
+  -- they are those before the first that is not same
+  pub run_first : (l : List (Row K)) (r : Option ℕ)
+      → MatchOption r (AllWithin (λ x. is_ne (within key x.key) ≡ false) l 0 (length l)) (λ i. (i < length l) × HoldsAt (λ x. is_ne (within key x.key) ≡ true) l i × AllWithin (λ x. is_ne (within key x.key) ≡ false) l 0 i)
+      → run l ≡ unwrap_or r (length l)
+  run_first = index_from_first run (λ x. is_ne (within key x.key) ≡ true) (λ x. is_ne (within key x.key) ≡ false) refl
+      (λ x l e. run_ends x l (differs (within key x.key) e)) (λ x l e. run_same x l (equal (within key x.key) e) ∙ one_more (run l))
+    where
+      differs : (o : Ordering) → is_ne o ≡ true → is_same o ≡ false
+      differs Less e = refl
+      differs Equal e = absurd (false≢true e)
+      differs Greater e = refl
 
-    pub run_stops : (x : Row K) → i < length l → x ≡ get_or l i x → is_same (within key x.key) ≡ false → i ≡ n
-    run_stops x h is e = stops_at (at_drop_more run l i x h ∙ ap (λ (y : Row K). run (y ∷ drop (i + 1) l)) (sym is) ∙ run_ends x (drop (i + 1) l) e)
+      equal : (o : Ordering) → is_ne o ≡ false → o ≡ Equal
+      equal Less e = absurd (false≢true (sym e))
+      equal Equal e = refl
+      equal Greater e = absurd (false≢true (sym e))
 
-    pub run_more : (x : Row K) → i < length l → x ≡ get_or l i x → within key x.key ≡ Equal → (i + 1) + run (drop (i + 1) l) ≡ n
-    run_more x h is e =
-        counted i (run (drop i l)) (run (drop (i + 1) l)) n (at_drop_more run l i x h ∙ ap (λ (y : Row K). run (y ∷ drop (i + 1) l)) (sym is) ∙ run_same x (drop (i + 1) l) e) inv
-
-    pub run_all : length l ≤ i → i ≡ n
-    run_all h = stops_at (at_drop_all run l i h)
+      one_more : (n : ℕ) → suc n ≡ n + 1
+      one_more n = omega arith
 
 -- what is promised of the number
 pub record Read {K : Type 0} (within : K → K → Ordering) (key : K) (rows : List (Row K)) (n : ℕ) : Type 0 where

@@ -1,10 +1,11 @@
 -- What the block holds, and what the steps of a join make of it.
-use Rattle.std.specs.Prelude.{◌≡◌, ℕ, zero, suc, ◌+◌, ◌-◌, ◌≤◌, Bool, true, false, cond, ◌&&◌, List, [], ◌∷◌, ◌++◌, reverse, length, take, drop, Some, None, Option, ◌==◌, nat_le}
+use Rattle.std.specs.Prelude.{◌≡◌, ℕ, zero, suc, ◌+◌, ◌-◌, ◌≤◌, Bool, true, false, cond, ◌&&◌, List, [], ◌∷◌, ◌++◌, reverse, length, take, drop, Some, None, Option, Result, is_ok, ◌==◌, nat_le}
 use Rattle.rows.specs.declared.kind.Kind.{Kind}
 use Rattle.rows.specs.declared.reading.Reading.{Reading}
 use Rattle.rows.specs.declared.record.Record.{Record}
 use Rattle.pipeline.specs.declared.entry.Entry.{Entry}
 use Rattle.pipeline.specs.declared.queue.Queue.{Queue}
+use Rattle.pipeline.specs.declared.refused.Refused.{Refused}
 use Rattle.pipeline.specs.declared.states.FilterState.{FilterState}
 use Rattle.pipeline.specs.declared.states.FilterState.TheVariants.{Unvisited, AllFailed, SomePassed}
 use Rattle.pipeline.specs.Entries.{lone}
@@ -64,10 +65,10 @@ can_note j n q block = nat_le (j + n) places && has_room n q block
 abbrev pub can_leave : Bool → (j n keep : ℕ) → Queue → List Entry → Bool
 can_leave full j n keep q block = q.unfrozen == 0 && (nat_le (j + n) places && has_room (cond full (n - (q.noted - keep)) 0) q block)
 
--- What a call makes of the numbers and the block: where the step is possible it is made, and the answer is true; elsewhere
--- nothing changes, and the answer is false.
-pub record Step (possible : Bool) (step : Queued → Queued) (q : Queue) (block : List Entry) (answer : Bool) (q' : Queue) (block' : List Entry) : Type 0 where
-  pub answers : answer ≡ possible
+-- What a call makes of the numbers and the block: where the step is possible it is made; elsewhere it is refused, and
+-- nothing changes.
+pub record Step (possible : Bool) (step : Queued → Queued) (q : Queue) (block : List Entry) (answer : Result (Unit {0}) Refused) (q' : Queue) (block' : List Entry) : Type 0 where
+  pub answers : is_ok answer ≡ possible
   pub made : possible ≡ true → queued q' block' ≡ step (queued q block)
   pub stays : possible ≡ false → (q' ≡ q) × (block' ≡ block)
   pub roomy : Roomy q block → Roomy q' block'

@@ -6,13 +6,14 @@ use Rattle.rows.specs.declared.kind.Kind.{Kind}
 use Rattle.rows.specs.declared.reading.Reading.{Reading}
 use Rattle.rows.specs.declared.row.Row.{Row}
 use Rattle.rows.specs.Order.{is_same}
+use Rattle.rows.specs.Sides.{left_of, right_of}
 use Rattle.pipeline.specs.declared.entry.Entry.{Entry}
 use Rattle.pipeline.specs.declared.entry.StreamedRow.{StreamedRow}
 use Rattle.pipeline.specs.declared.batch.BufferedBatch.{BufferedBatch}
 use Rattle.pipeline.specs.declared.held.BufferedData.{BufferedData}
 use Rattle.pipeline.specs.Batches.{rows_of}
 use Rattle.pipeline.specs.Entries.{pair_of}
-use Rattle.pipeline.specs.Orient.{left_of, right_of, paired}
+use Rattle.pipeline.specs.Orient.{paired}
 
 -- What is known of the held batches: the batches, oldest first, each with its range in the run; the place of the first row
 -- held; how many rows are held; from which row of them to which the run goes; whether a streamed row was paired with it.

@@ -1,5 +1,7 @@
-ghost use Rattle.std.specs.Prelude.{◌≡◌, ◌+◌, if◌then◌else◌, nat_le};
+ghost use Rattle.std.specs.Prelude.{◌≡◌, ◌+◌, if◌then◌else◌, is_ok, nat_le};
 ghost use Rattle.pipeline.specs.Held.{longer, begun, is_consumed};
+
+use crate::refused::Refused;
 
 // A held batch and its range in the run.
 #[derive(Clone, Copy, PartialEq, Eq, Debug)]
@@ -23,29 +25,29 @@ impl BufferedBatch {
         }
     }
 
-    // The range goes on for more rows; false where it would not fit.
-    pub(crate) fn extend(&mut self, more: u32) -> bool
-        ensures answer { result ≡ nat_le (self.old.end + more) 4294967295 }
-        ensures left { self.new ≡ (if result then longer more self.old else self.old) }
+    // The range goes on for more rows, where it fits.
+    pub(crate) fn extend(&mut self, more: u32) -> Result<(), Refused>
+        ensures answer { is_ok result ≡ nat_le (self.old.end + more) 4294967295 }
+        ensures left { self.new ≡ (if is_ok result then longer more self.old else self.old) }
     {
         if more > Self::MOST_ROWS - self.end {
-            return false;
+            return Err(Refused);
         }
         self.end += more;
-        true
+        Ok(())
     }
 
-    // The range begins anew behind its end, with one row; false where it would not fit.
-    pub(crate) fn advance(&mut self) -> bool
-        ensures answer { result ≡ nat_le (self.old.end + 1) 4294967295 }
-        ensures left { self.new ≡ (if result then begun self.old else self.old) }
+    // The range begins anew behind its end, with one row, where it fits.
+    pub(crate) fn advance(&mut self) -> Result<(), Refused>
+        ensures answer { is_ok result ≡ nat_le (self.old.end + 1) 4294967295 }
+        ensures left { self.new ≡ (if is_ok result then begun self.old else self.old) }
     {
         if self.end == Self::MOST_ROWS {
-            return false;
+            return Err(Refused);
         }
         self.start = self.end;
         self.end += 1;
-        true
+        Ok(())
     }
 
     // Whether its last row was in a run.

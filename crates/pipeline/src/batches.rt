@@ -1,9 +1,10 @@
-ghost use Rattle.std.specs.Prelude.{◌≡◌, length, take, if◌then◌else◌};
+ghost use Rattle.std.specs.Prelude.{◌≡◌, length, take, if◌then◌else◌, is_ok};
 ghost use Rattle.pipeline.specs.Batches.{rows_of};
 ghost use Rattle.pipeline.specs.Held.{holding, empty, can_push, pushed, can_extend, extended, can_seed, seeded, passed, matching, leaving, can_dequeue, dequeued};
 
 use crate::batch::BufferedBatch;
 use crate::held::BufferedData;
+use crate::refused::Refused;
 
 impl BufferedData {
     pub const MOST_BATCHES: usize = 64;
@@ -24,54 +25,50 @@ impl BufferedData {
         }
     }
 
-    // One batch more, behind those held; false where there are 64, or its places would not fit.
-    pub fn push(&mut self, rows: usize) -> bool
-        ensures answer { result ≡ can_push rows (holding self.old) }
-        ensures left { holding self.new ≡ (if result then pushed rows (holding self.old) else holding self.old) }
+    // One batch more, behind those held; refused where there are 64, or its places would not fit.
+    pub fn push(&mut self, rows: usize) -> Result<(), Refused>
+        ensures answer { is_ok result ≡ can_push rows (holding self.old) }
+        ensures left { holding self.new ≡ (if is_ok result then pushed rows (holding self.old) else holding self.old) }
     {
         let read = self.base as usize + self.held;
         if self.count == Self::MOST_BATCHES || rows > Self::MOST_ROWS - read {
-            return false;
+            return Err(Refused);
         }
         self.batches[self.count] = BufferedBatch::new(rows as u32);
         self.count += 1;
         self.held += rows;
-        true
+        Ok(())
     }
 
     // The run goes on for more rows of the last batch. It does not end with its batch: after a further `push` it can go on.
-    pub fn extend(&mut self, more: usize) -> bool
-        ensures answer { result ≡ can_extend more (holding self.old) }
-        ensures left { holding self.new ≡ (if result then extended more (holding self.old) else holding self.old) }
+    pub fn extend(&mut self, more: usize) -> Result<(), Refused>
+        ensures answer { is_ok result ≡ can_extend more (holding self.old) }
+        ensures left { holding self.new ≡ (if is_ok result then extended more (holding self.old) else holding self.old) }
     {
         if self.count == 0 || more > self.held - self.end {
-            return false;
+            return Err(Refused);
         }
         let tail = self.count - 1;
-        if !self.batches[tail].extend(more as u32) {
-            return false;
-        }
+        self.batches[tail].extend(more as u32)?;
         self.end += more;
-        true
+        Ok(())
     }
 
-    // The next run begins with the first row that no run has held; false where there is none.
-    pub fn seed(&mut self) -> bool
-        ensures answer { result ≡ can_seed (holding self.old) }
-        ensures left { holding self.new ≡ (if result then seeded (holding self.old) else holding self.old) }
+    // The next run begins with the first row that no run has held; refused where there is none.
+    pub fn seed(&mut self) -> Result<(), Refused>
+        ensures answer { is_ok result ≡ can_seed (holding self.old) }
+        ensures left { holding self.new ≡ (if is_ok result then seeded (holding self.old) else holding self.old) }
     {
         if self.count == 0 || self.end == self.held {
-            return false;
+            return Err(Refused);
         }
         let tail = self.count - 1;
-        if !self.batches[tail].advance() {
-            return false;
-        }
+        self.batches[tail].advance()?;
         let first = self.end;
         self.start = first;
         self.end = first + 1;
         self.matched = false;
-        true
+        Ok(())
     }
 
     // The run is passed.
@@ -93,34 +90,31 @@ impl BufferedData {
     pub fn leaving(&self) -> usize
         ensures { result ≡ length (leaving (holding self.now).batches) }
     {
-        for (i, batch) in self.batches[..self.count].iter().enumerate() {
-            if !batch.is_consumed() {
-                return i;
-            }
-        }
-        self.count
+        self.batches[..self.count]
+            .iter()
+            .position(|batch| !batch.is_consumed())
+            .unwrap_or(self.count)
     }
 
     // The rows of the first k batches, or of all where they are fewer.
     pub fn rows_of(&self, k: usize) -> usize
         ensures { result ≡ rows_of (take k (holding self.now).batches) }
     {
-        let mut rows = 0;
-        for batch in &self.batches[..k.min(self.count)] {
-            rows += batch.rows as usize;
-        }
-        rows
+        self.batches[..k.min(self.count)]
+            .iter()
+            .map(|batch| batch.rows as usize)
+            .sum()
     }
 
-    // The first k batches are no longer held, and the rows after them move to the table's start; false where there are not so
-    // many, or one of their rows is in the run.
-    pub fn dequeue(&mut self, k: usize) -> bool
-        ensures answer { result ≡ can_dequeue k (holding self.old) }
-        ensures left { holding self.new ≡ (if result then dequeued k (holding self.old) else holding self.old) }
+    // The first k batches are no longer held, and the rows after them move to the table's start; refused where there are not
+    // so many, or one of their rows is in the run.
+    pub fn dequeue(&mut self, k: usize) -> Result<(), Refused>
+        ensures answer { is_ok result ≡ can_dequeue k (holding self.old) }
+        ensures left { holding self.new ≡ (if is_ok result then dequeued k (holding self.old) else holding self.old) }
     {
         let rows = self.rows_of(k);
         if k > self.count || rows > self.start {
-            return false;
+            return Err(Refused);
         }
         let count = self.count;
         self.batches.copy_within(k..count, 0);
@@ -129,7 +123,7 @@ impl BufferedData {
         self.held -= rows;
         self.start -= rows;
         self.end -= rows;
-        true
+        Ok(())
     }
 }
 
@@ -141,19 +135,19 @@ mod tests {
     fn holds_sixty_four_batches(rt: HostRuntime) {
         let mut data = BufferedData::new();
         for _ in 0..BufferedData::MOST_BATCHES {
-            assert!(rt; data.push(1));
+            assert_eq!(rt; data.push(1), Ok(()));
         }
-        assert!(rt; !data.push(1));
+        assert_eq!(rt; data.push(1), Err(Refused));
         assert_eq!(rt; data.held, 64);
     }
 
     #[test]
     fn holds_rows_up_to_the_last_place(rt: HostRuntime) {
         let mut data = BufferedData::new();
-        assert!(rt; data.push(BufferedData::MOST_ROWS - 1));
-        assert!(rt; !data.push(2));
-        assert!(rt; data.push(1));
-        assert!(rt; !data.push(1));
+        assert_eq!(rt; data.push(BufferedData::MOST_ROWS - 1), Ok(()));
+        assert_eq!(rt; data.push(2), Err(Refused));
+        assert_eq!(rt; data.push(1), Ok(()));
+        assert_eq!(rt; data.push(1), Err(Refused));
         assert_eq!(rt; data.held, BufferedData::MOST_ROWS);
     }
 
@@ -161,22 +155,22 @@ mod tests {
     #[test]
     fn reads_a_run_over_three_batches(rt: HostRuntime) {
         let mut data = BufferedData::new();
-        assert!(rt; data.push(2));
-        assert!(rt; data.seed());
-        assert!(rt; data.extend(1));
-        assert!(rt; !data.extend(1), "its batch has no row more");
-        assert!(rt; data.push(1));
-        assert!(rt; data.extend(1));
-        assert!(rt; data.push(2));
-        assert!(rt; data.extend(1));
+        assert_eq!(rt; data.push(2), Ok(()));
+        assert_eq!(rt; data.seed(), Ok(()));
+        assert_eq!(rt; data.extend(1), Ok(()));
+        assert_eq!(rt; data.extend(1), Err(Refused), "its batch has no row more");
+        assert_eq!(rt; data.push(1), Ok(()));
+        assert_eq!(rt; data.extend(1), Ok(()));
+        assert_eq!(rt; data.push(2), Ok(()));
+        assert_eq!(rt; data.extend(1), Ok(()));
         assert_eq!(rt; data.end - data.start, 4);
         assert_eq!(rt; data.leaving(), 2);
-        assert!(rt; !data.dequeue(2), "the run is not passed");
+        assert_eq!(rt; data.dequeue(2), Err(Refused), "the run is not passed");
         data.pass();
-        assert!(rt; data.dequeue(2));
+        assert_eq!(rt; data.dequeue(2), Ok(()));
         assert_eq!(rt; data.base, 3);
         assert_eq!(rt; data.held, 2);
-        assert!(rt; data.seed());
+        assert_eq!(rt; data.seed(), Ok(()));
         assert_eq!(rt; data.start, 1);
         assert_eq!(rt; data.leaving(), 1);
     }
@@ -184,16 +178,16 @@ mod tests {
     #[test]
     fn reads_a_run_of_one_row(rt: HostRuntime) {
         let mut data = BufferedData::new();
-        assert!(rt; !data.seed(), "no row is held");
-        assert!(rt; data.push(1));
+        assert_eq!(rt; data.seed(), Err(Refused), "no row is held");
+        assert_eq!(rt; data.push(1), Ok(()));
         assert_eq!(rt; data.leaving(), 0);
-        assert!(rt; data.seed());
+        assert_eq!(rt; data.seed(), Ok(()));
         data.mark_matched();
         assert!(rt; data.matched);
         data.pass();
         assert!(rt; !data.matched);
-        assert!(rt; !data.seed(), "the only row was in a run");
-        assert!(rt; data.dequeue(1));
+        assert_eq!(rt; data.seed(), Err(Refused), "the only row was in a run");
+        assert_eq!(rt; data.dequeue(1), Ok(()));
         assert_eq!(rt; data.held, 0);
         assert_eq!(rt; data.base, 1);
     }

@@ -5,7 +5,6 @@ ghost use Rattle.pipeline.specs.Correction.{same_row, fate, seen_after, fates, a
 use crate::entry::{Entry, StreamedRow};
 use crate::orient::lone_record;
 use rows::kind::Kind;
-use rows::reading::Reading;
 use rows::record::Record;
 
 // What becomes of an entry: it stays, it becomes its streamed row alone, or it goes.
@@ -21,7 +20,7 @@ fn same_row(a: Option<StreamedRow>, b: Option<StreamedRow>) -> bool
     ensures { result ≡ same_row a b }
 {
     match (a, b) {
-        (Some(a), Some(b)) => a.batch == b.batch && a.row == b.row,
+        (Some(a), Some(b)) => a == b,
         _ => false,
     }
 }
@@ -31,13 +30,8 @@ fn fate_of(verdict: Option<bool>, seen: bool, last: bool) -> Fate
 {
     match verdict {
         None | Some(true) => Fate::Kept,
-        Some(false) => {
-            if last && !seen {
-                Fate::Alone
-            } else {
-                Fate::Dropped
-            }
-        }
+        Some(false) if last && !seen => Fate::Alone,
+        Some(false) => Fate::Dropped,
     }
 }
 
@@ -45,24 +39,15 @@ fn fate_of(verdict: Option<bool>, seen: bool, last: bool) -> Fate
 fn yes_seen_after(verdict: Option<bool>, seen: bool, last: bool) -> bool
     ensures { result ≡ seen_after verdict seen last }
 {
-    if last {
-        return false;
-    }
-    match verdict {
-        Some(true) => true,
-        None | Some(false) => seen,
-    }
+    !last && (seen || verdict == Some(true))
 }
 
 fn alone_entry(kind: Kind, entry: Entry) -> Entry
     ensures { result ≡ alone kind entry }
 {
     Entry {
-        row: entry.row,
-        verdict: entry.verdict,
         record: lone_record(kind, entry.record),
-        left: entry.left,
-        right: entry.right,
+        ..entry
     }
 }
 
@@ -75,12 +60,12 @@ pub fn correct_entries(kind: Kind, entries: &mut [Entry]) -> usize
 {
     let mut seen = false;
     let mut left = 0;
+    // by index: an entry is judged with the next one, and written before the place where it is read
     for i in 0..entries.len() {
         let entry = entries[i];
-        let last = if i + 1 < entries.len() {
-            !same_row(entry.row, entries[i + 1].row)
-        } else {
-            true
+        let last = match entries.get(i + 1) {
+            Some(next) => !same_row(entry.row, next.row),
+            None => true,
         };
         match fate_of(entry.verdict, seen, last) {
             Fate::Kept => {
@@ -102,13 +87,10 @@ pub fn correct_entries(kind: Kind, entries: &mut [Entry]) -> usize
 fn example_pair(row: u32, buffered: u32, yes: bool) -> Entry
     ensures { result ≡ example_pair row buffered yes }
 {
-    let none = Reading::new(0, Reading::NOT_MEASURED, 0);
     Entry {
         row: Some(StreamedRow { batch: 0, row }),
         verdict: Some(yes),
-        record: Record::Pair(row, buffered),
-        left: none,
-        right: none,
+        ..Entry::lone(Record::Pair(row, buffered))
     }
 }
 

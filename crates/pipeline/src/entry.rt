@@ -26,12 +26,13 @@ impl Entry {
     pub fn lone(record: Record) -> Entry
         ensures { result ≡ lone «record» }
     {
+        let none = Reading::new(0, Reading::NOT_MEASURED, 0);
         Entry {
             row: None,
             verdict: None,
             record,
-            left: Reading::new(0, Reading::NOT_MEASURED, 0),
-            right: Reading::new(0, Reading::NOT_MEASURED, 0),
+            left: none,
+            right: none,
         }
     }
 
@@ -40,10 +41,9 @@ impl Entry {
     {
         Entry {
             row: Some(row),
-            verdict: None,
-            record,
             left,
             right,
+            ..Entry::lone(record)
         }
     }
 }

@@ -31,11 +31,10 @@ pub fn freeze_entries<F: Filter>(
     ensures entries { entries.new ≡ judged_all (asking F.Filter.says filter.now) entries.old }
     ensures states { states_of states.new ≡ marking kind base (judged_all (asking F.Filter.says filter.now) entries.old) (states_of states.old) }
 {
-    for i in 0..entries.len() {
-        let entry = entries[i];
-        if let Some(_) = entry.row {
+    for entry in entries.iter_mut() {
+        if entry.row.is_some() {
             let yes = says_yes(filter, &entry.left, &entry.right);
-            entries[i].verdict = Some(yes);
+            entry.verdict = Some(yes);
             let row = partner_place(kind, entry.record).saturating_sub(base);
             states.mark(row as usize, yes);
         }
@@ -46,10 +45,7 @@ pub fn freeze_entries<F: Filter>(
 fn is_kept(verdict: Option<bool>) -> bool
     ensures { result ≡ stays verdict }
 {
-    match verdict {
-        None | Some(true) => true,
-        Some(false) => false,
-    }
+    verdict != Some(false)
 }
 
 // Moves lone rows and passing pairs to the front, and answers how many those are; the entries behind them are free.
@@ -58,6 +54,7 @@ pub fn keep_passing(entries: &mut [Entry]) -> usize
     ensures count { result ≡ length (passing entries.old) }
 {
     let mut left = 0;
+    // by index: an entry is written before the place where it is read
     for i in 0..entries.len() {
         let entry = entries[i];
         if is_kept(entry.verdict) {

@@ -4,7 +4,7 @@ ghost use Rattle.pipeline.specs.Batches.{rows_of};
 use crate::batch::BufferedBatch;
 
 // The held batches lie in the table one after the other from its start. The run goes from row `start` to row `end` of the
-// table; `base` is the place of the table's first row.
+// table; `base` is the place of the table's first row. A plain struct with an array and a count, which a fixed memory can hold.
 #[derive(Clone, Copy)]
 pub struct BufferedData {
     pub batches: [BufferedBatch; 64],

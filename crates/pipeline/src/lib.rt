@@ -12,5 +12,6 @@ pub mod noted;
 pub mod orient;
 pub mod pairing;
 pub mod queue;
+pub mod refused;
 pub mod run;
 pub mod states;

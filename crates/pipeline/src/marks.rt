@@ -1,7 +1,8 @@
-ghost use Rattle.std.specs.Prelude.{◌≡◌, ◌+◌, ◌-◌, ◌≤◌, Bool, true, false, [], ◌++◌, length, drop, replicate, if◌then◌else◌, nat_le};
+ghost use Rattle.std.specs.Prelude.{◌≡◌, ◌+◌, ◌-◌, ◌≤◌, Bool, true, false, [], ◌++◌, length, drop, replicate, if◌then◌else◌, is_ok, nat_le};
 ghost use Rattle.pipeline.specs.States.{states_of, marked, mark_at, state_at};
 ghost use Rattle.pipeline.specs.declared.states.FilterState.TheVariants.{Unvisited};
 
+use crate::refused::Refused;
 use crate::states::{FilterState, States};
 
 impl FilterState {
@@ -32,10 +33,7 @@ impl States {
     pub fn get(&self, i: usize) -> Option<FilterState>
         ensures { result ≡ state_at i (states_of self.now) }
     {
-        if i < self.len {
-            return Some(self.cells[i]);
-        }
-        None
+        self.cells[..self.len].get(i).copied()
     }
 
     // A verdict on a pair of the row; of a row that is not held it changes nothing.
@@ -47,19 +45,18 @@ impl States {
         }
     }
 
-    // Rows come to the held ones; false where there is no space for them.
-    pub fn hold(&mut self, rows: usize) -> bool
-        ensures answer { result ≡ nat_le (length (states_of self.old) + rows) 65535 }
-        ensures left { states_of self.new ≡ (if result then states_of self.old ++ replicate rows Unvisited else states_of self.old) }
+    // Rows come to the held ones; refused where there is no space for them.
+    pub fn hold(&mut self, rows: usize) -> Result<(), Refused>
+        ensures answer { is_ok result ≡ nat_le (length (states_of self.old) + rows) 65535 }
+        ensures left { states_of self.new ≡ (if is_ok result then states_of self.old ++ replicate rows Unvisited else states_of self.old) }
     {
         if rows > Self::MOST - self.len {
-            return false;
+            return Err(Refused);
         }
-        for i in 0..rows {
-            self.cells[self.len + i] = FilterState::Unvisited;
-        }
-        self.len += rows;
-        true
+        let end = self.len + rows;
+        self.cells[self.len..end].fill(FilterState::Unvisited);
+        self.len = end;
+        Ok(())
     }
 
     // The first rows are no longer held, and the others move to the front.
@@ -90,16 +87,16 @@ mod tests {
     #[test]
     fn holds_a_full_table(rt: HostRuntime) {
         let mut states = States::new();
-        assert!(rt; states.hold(States::MOST - 1));
-        assert!(rt; !states.hold(2));
-        assert!(rt; states.hold(1));
+        assert_eq!(rt; states.hold(States::MOST - 1), Ok(()));
+        assert_eq!(rt; states.hold(2), Err(Refused));
+        assert_eq!(rt; states.hold(1), Ok(()));
         states.mark(States::MOST - 1, false);
         states.mark(States::MOST, true);
         assert_eq!(rt; states.get(States::MOST), None);
         states.drop_front(States::MOST - 1);
         assert_eq!(rt; states.get(0), Some(FilterState::AllFailed));
         assert_eq!(rt; states.get(1), None);
-        assert!(rt; states.hold(1));
+        assert_eq!(rt; states.hold(1), Ok(()));
         assert_eq!(rt; states.get(1), Some(FilterState::Unvisited));
     }
 }

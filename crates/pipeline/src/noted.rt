@@ -61,10 +61,7 @@ pub(crate) fn most_failed(full: bool, rows: u32, noted: usize) -> usize
 fn is_failed(state: Option<FilterState>) -> bool
     ensures { result ≡ all_failed state }
 {
-    match state {
-        Some(FilterState::AllFailed) => true,
-        None | Some(FilterState::Unvisited) | Some(FilterState::SomePassed) => false,
-    }
+    state == Some(FilterState::AllFailed)
 }
 
 // Writes the batch's rows whose pairs all failed, as many as there is room for, and answers how many those are.
@@ -73,6 +70,7 @@ pub(crate) fn list_failed(kind: Kind, batch: Leaving, states: &States, out: &mut
     ensures front { take result out.new ≡ take (length out.old) (failed kind batch.first (take batch.rows (drop batch.from (states_of states.now)))) }
     ensures fits { result ≤ length out.old }
 {
+    // counted, since `out` may have room for fewer rows than failed
     let mut count = 0;
     for i in 0..batch.rows {
         if count == out.len() {

@@ -1,7 +1,8 @@
 ghost use Rattle.std.specs.Prelude.{◌≡◌, min, ◌++◌, length, take, drop};
 ghost use Rattle.pipeline.specs.Entries.{pair_of};
 ghost use Rattle.pipeline.specs.Held.{holding, run_at, pairs_with};
-ghost use Rattle.pipeline.specs.Orient.{left_of, right_of, paired};
+ghost use Rattle.pipeline.specs.Orient.{paired};
+ghost use Rattle.rows.specs.Sides.{left_of, right_of};
 
 use crate::batch::BufferedBatch;
 use crate::entry::{Entry, StreamedRow};
@@ -36,11 +37,8 @@ fn pair_entry(
 ) -> Entry
     ensures { result ≡ pair_of row (paired kind place buffered) (left_of kind reading partner) (right_of kind reading partner) }
 {
-    let pair = paired_record(kind, place, buffered);
-    match kind {
-        Kind::Right => Entry::pair(row, pair, partner, reading),
-        Kind::Inner | Kind::Left | Kind::Full => Entry::pair(row, pair, reading, partner),
-    }
+    let (left, right) = kind.oriented(reading, partner);
+    Entry::pair(row, paired_record(kind, place, buffered), left, right)
 }
 
 impl BufferedData {
@@ -62,35 +60,31 @@ impl BufferedData {
     {
         let known = rows.len().min(self.held);
         let mut count = 0;
-        let mut batch = from.batch;
-        let mut at = from.row;
-        let mut first = self.rows_of(batch);
-        'scan: while batch < self.count {
+        let mut start = from.row;
+        let mut first = self.rows_of(from.batch);
+        let mut position = Position {
+            batch: self.count,
+            row: 0,
+        };
+        'scan: for batch in from.batch..self.count {
             let range = self.batches[batch];
-            while at < range.end && first + (at as usize) < known {
+            for at in start..range.end {
+                let index = first + at as usize;
+                if index >= known {
+                    break;
+                }
                 if count == out.len() {
+                    position = Position { batch, row: at };
                     break 'scan;
                 }
-                let index = first + at as usize;
-                out[count] = pair_entry(
-                    kind,
-                    row,
-                    place,
-                    reading,
-                    self.base + index as u32,
-                    rows[index].reading,
-                );
+                let partner = rows[index].reading;
+                out[count] = pair_entry(kind, row, place, reading, self.base + index as u32, partner);
                 count += 1;
-                at += 1;
             }
             first += range.rows as usize;
-            batch += 1;
-            at = 0;
+            start = 0;
         }
-        Stop {
-            count,
-            position: Position { batch, row: at },
-        }
+        Stop { count, position }
     }
 }
 

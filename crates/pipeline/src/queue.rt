@@ -1,4 +1,4 @@
-ghost use Rattle.std.specs.Prelude.{◌≡◌, ◌+◌, ◌-◌, ◌<◌, ◌&&◌, List, [], ◌∷◌, length, take, drop, if◌then◌else◌, ◌==◌, nat_le, nat_lt, slice_set};
+ghost use Rattle.std.specs.Prelude.{◌≡◌, ◌+◌, ◌-◌, ◌<◌, ◌&&◌, List, [], ◌∷◌, length, take, drop, if◌then◌else◌, is_ok, ◌==◌, nat_le, nat_lt, slice_set};
 ghost use Rattle.pipeline.specs.declared.entry.Entry.{Entry as EntryOf};
 ghost use Rattle.pipeline.specs.Block.{queued, Roomy, empty, has_room, can_hand, can_note, can_leave, places, Step, next_of, handed, pushed, release, correct, freeze, freeze_all, noting, leave};
 ghost use Rattle.pipeline.specs.Freezing.{asking, judged_all};
@@ -9,14 +9,16 @@ use crate::entry::Entry;
 use crate::freeze::{freeze_entries, keep_passing};
 use crate::noted::{Leaving, bring_in, bring_oldest, list_failed, most_failed};
 use crate::orient::buffered_record;
+use crate::refused::Refused;
 use crate::states::States;
 use filters::filter::Filter;
 use rows::kind::Kind;
 use rows::record::Record;
 
 // How the block is used: frozen entries from its front, the unfrozen after them, noted buffered rows from its end downwards,
-// the oldest last. While records are due, `due` entries from `next` on hold them, and nothing is frozen or unfrozen.
-#[derive(Clone, Copy, PartialEq, Eq, Debug)]
+// the oldest last. While records are due, `due` entries from `next` on hold them, and nothing is frozen or unfrozen. The block is
+// the caller's between calls, so every method takes it.
+#[derive(Clone, Copy, PartialEq, Eq, Debug, Default)]
 pub struct Queue {
     pub next: usize,
     pub due: usize,
@@ -33,13 +35,7 @@ impl Queue {
         ensures holds { (block : List EntryOf) → queued result block ≡ empty }
         ensures roomy { (block : List EntryOf) → Roomy result block }
     {
-        Queue {
-            next: 0,
-            due: 0,
-            frozen: 0,
-            unfrozen: 0,
-            noted: 0,
-        }
+        Queue::default()
     }
 
     // Whether a record is due.
@@ -84,26 +80,26 @@ impl Queue {
     }
 
     // One entry more that is not frozen yet.
-    pub fn push(&mut self, block: &mut [Entry], entry: Entry) -> bool
+    pub fn push(&mut self, block: &mut [Entry], entry: Entry) -> Result<(), Refused>
         ensures { Step (has_room 1 self.old block.old) (pushed (entry ∷ [])) self.old block.old result self.new block.new }
     {
         if !self.has_room(block, 1) {
-            return false;
+            return Err(Refused);
         }
         block[self.frozen + self.unfrozen] = entry;
         self.unfrozen += 1;
-        true
+        Ok(())
     }
 
     // The n entries that were written behind the unfrozen are unfrozen too.
-    pub fn add(&mut self, block: &[Entry], n: usize) -> bool
+    pub fn add(&mut self, block: &[Entry], n: usize) -> Result<(), Refused>
         ensures { Step (has_room n self.old block.now) (pushed (take n (drop (self.old.frozen + self.old.unfrozen) block.now))) self.old block.now result self.new block.now }
     {
         if !self.has_room(block, n) {
-            return false;
+            return Err(Refused);
         }
         self.unfrozen += n;
-        true
+        Ok(())
     }
 
     // Whether what is frozen can become due.
@@ -114,29 +110,29 @@ impl Queue {
     }
 
     // What is frozen becomes due as it is, lone rows and passing pairs; nothing may be unfrozen.
-    pub fn release(&mut self, block: &mut [Entry]) -> bool
+    pub fn release(&mut self, block: &mut [Entry]) -> Result<(), Refused>
         ensures { Step (can_hand self.old block.old) release self.old block.old result self.new block.new }
     {
         if !self.can_hand(block) {
-            return false;
+            return Err(Refused);
         }
         let frozen = self.frozen;
         let count = keep_passing(&mut block[0..frozen]);
         self.make_due(count);
-        true
+        Ok(())
     }
 
     // What is frozen becomes due corrected; nothing may be unfrozen.
-    pub fn correct(&mut self, kind: Kind, block: &mut [Entry]) -> bool
+    pub fn correct(&mut self, kind: Kind, block: &mut [Entry]) -> Result<(), Refused>
         ensures { Step (can_hand self.old block.old) (correct kind) self.old block.old result self.new block.new }
     {
         if !self.can_hand(block) {
-            return false;
+            return Err(Refused);
         }
         let frozen = self.frozen;
         let count = correct_entries(kind, &mut block[0..frozen]);
         self.make_due(count);
-        true
+        Ok(())
     }
 
     // The first entries of the block are due, and none is frozen.
@@ -156,19 +152,19 @@ impl Queue {
         base: u32,
         states: &mut States,
         block: &mut [Entry],
-    ) -> bool
+    ) -> Result<(), Refused>
         ensures block { Step (has_room 0 self.old block.old) (freeze (asking F.Filter.says filter.now)) self.old block.old result self.new block.new }
-        ensures states { states_of states.new ≡ (if result then marking kind base (judged_all (asking F.Filter.says filter.now) (queued self.old block.old).unfrozen) (states_of states.old) else states_of states.old) }
+        ensures states { states_of states.new ≡ (if is_ok result then marking kind base (judged_all (asking F.Filter.says filter.now) (queued self.old block.old).unfrozen) (states_of states.old) else states_of states.old) }
     {
         if !self.has_room(block, 0) {
-            return false;
+            return Err(Refused);
         }
         let from = self.frozen;
         let to = from + self.unfrozen;
         freeze_entries(filter, kind, base, states, &mut block[from..to]);
         self.frozen = to;
         self.unfrozen = 0;
-        true
+        Ok(())
     }
 
     // Freezes all: the noted buffered rows first, then the unfrozen.
@@ -179,12 +175,12 @@ impl Queue {
         base: u32,
         states: &mut States,
         block: &mut [Entry],
-    ) -> bool
+    ) -> Result<(), Refused>
         ensures block { Step (has_room 0 self.old block.old) (freeze_all (asking F.Filter.says filter.now)) self.old block.old result self.new block.new }
-        ensures states { states_of states.new ≡ (if result then marking kind base (judged_all (asking F.Filter.says filter.now) (queued self.old block.old).unfrozen) (states_of states.old) else states_of states.old) }
+        ensures states { states_of states.new ≡ (if is_ok result then marking kind base (judged_all (asking F.Filter.says filter.now) (queued self.old block.old).unfrozen) (states_of states.old) else states_of states.old) }
     {
         if !self.has_room(block, 0) {
-            return false;
+            return Err(Refused);
         }
         let Queue {
             frozen,
@@ -217,17 +213,17 @@ impl Queue {
     }
 
     // Notes n buffered rows, from place `first` on.
-    pub fn note_rows(&mut self, kind: Kind, first: u32, n: usize, block: &mut [Entry]) -> bool
+    pub fn note_rows(&mut self, kind: Kind, first: u32, n: usize, block: &mut [Entry]) -> Result<(), Refused>
         ensures { Step (can_note first n self.old block.old) (noting kind first n) self.old block.old result self.new block.new }
     {
         if !self.can_note(first, n, block) {
-            return false;
+            return Err(Refused);
         }
         for i in 0..n {
             let place = (first as usize + i) as u32;
             self.note(block, Entry::lone(buffered_record(kind, place)));
         }
-        true
+        Ok(())
     }
 
     // Whether the batch can leave; `most` rows of it can be listed besides those noted.
@@ -247,21 +243,21 @@ impl Queue {
         batch: Leaving,
         states: &States,
         block: &mut [Entry],
-    ) -> bool
+    ) -> Result<(), Refused>
         ensures { Step (can_leave full batch.first batch.rows batch.keep self.old block.old) (leave kind full batch.first batch.rows batch.keep (take batch.rows (drop batch.from (states_of states.now)))) self.old block.old result self.new block.new }
     {
         let Queue { frozen, noted, .. } = *self;
         let out = noted.saturating_sub(batch.keep);
         let most = most_failed(full, batch.rows, out);
         if !self.can_leave(batch, most, block) {
-            return false;
+            return Err(Refused);
         }
         bring_oldest(block, frozen, noted, out);
         let from = frozen + out;
         let failed = list_failed(kind, batch, states, &mut block[from..from + most]);
         self.frozen = from + failed;
         self.noted = noted - out;
-        true
+        Ok(())
     }
 }
 

@@ -3,7 +3,6 @@ ghost use Rattle.pipeline.specs.Held.{same_run, AllSame, Differs, GoesOn};
 
 use rows::order::KeyOrder;
 use rows::row::Row;
-use std::cmp::Ordering;
 
 // Reads a run: how many of the first rows have a key that is same within as the given one. They are the longest such stretch,
 // and where they are all rows, the run goes on with the next batch.
@@ -13,11 +12,7 @@ pub fn same_from<O: KeyOrder>(order: &O, key: &O::Key, rows: &[Row<O::Key>]) -> 
     ensures longest { Differs (O.KeyOrder.within order.now) key.now (drop result rows.now) }
     ensures onward { GoesOn (O.KeyOrder.within order.now) key.now rows.now result }
 {
-    for (i, row) in rows.iter().enumerate() {
-        match order.compare_within(key, &row.key) {
-            Ordering::Equal => {}
-            Ordering::Less | Ordering::Greater => return i,
-        }
-    }
-    rows.len()
+    rows.iter()
+        .position(|row| order.compare_within(key, &row.key).is_ne())
+        .unwrap_or(rows.len())
 }

@@ -34,17 +34,14 @@ fn fills_the_block_to_its_last_entry(rt: HostRuntime) {
     let mut block = [row(0); 4];
     let mut states = States::new();
     let mut queue = Queue::new();
-    assert!(rt; queue.push(&mut block, row(1)));
-    assert!(rt; queue.note_rows(Kind::Full, 7, 3, &mut block));
-    assert!(rt; !queue.push(&mut block, row(2)));
-    assert!(rt; !queue.note_rows(Kind::Full, 10, 1, &mut block));
-    assert!(rt;
-        !queue.correct(Kind::Full, &mut block),
-        "a row is not frozen yet"
-    );
-    assert!(rt; queue.freeze_all(&Some(Refuse), Kind::Full, 0, &mut states, &mut block));
-    assert!(rt; queue.correct(Kind::Full, &mut block));
-    assert!(rt; !queue.push(&mut block, row(2)), "records are due");
+    assert_eq!(rt; queue.push(&mut block, row(1)), Ok(()));
+    assert_eq!(rt; queue.note_rows(Kind::Full, 7, 3, &mut block), Ok(()));
+    assert_eq!(rt; queue.push(&mut block, row(2)), Err(Refused));
+    assert_eq!(rt; queue.note_rows(Kind::Full, 10, 1, &mut block), Err(Refused));
+    assert_eq!(rt; queue.correct(Kind::Full, &mut block), Err(Refused), "a row is not frozen yet");
+    assert_eq!(rt; queue.freeze_all(&Some(Refuse), Kind::Full, 0, &mut states, &mut block), Ok(()));
+    assert_eq!(rt; queue.correct(Kind::Full, &mut block), Ok(()));
+    assert_eq!(rt; queue.push(&mut block, row(2)), Err(Refused), "records are due");
     let records = [
         Record::RightAlone(7),
         Record::RightAlone(8),
@@ -59,23 +56,23 @@ fn lets_only_the_rows_of_the_batch_leave(rt: HostRuntime) {
     let mut block = [row(0); 3];
     let mut states = States::new();
     let mut queue = Queue::new();
-    assert!(rt; queue.note_rows(Kind::Full, 7, 3, &mut block));
+    assert_eq!(rt; queue.note_rows(Kind::Full, 7, 3, &mut block), Ok(()));
     let batch = Leaving {
         first: 7,
         rows: 2,
         from: 0,
         keep: 1,
     };
-    assert!(rt; queue.leave(Kind::Full, true, batch, &states, &mut block));
-    assert!(rt; queue.release(&mut block));
+    assert_eq!(rt; queue.leave(Kind::Full, true, batch, &states, &mut block), Ok(()));
+    assert_eq!(rt; queue.release(&mut block), Ok(()));
     check_due(
         &rt,
         &mut queue,
         &block,
         &[Record::RightAlone(7), Record::RightAlone(8)],
     );
-    assert!(rt; queue.freeze_all(&None::<Refuse>, Kind::Full, 0, &mut states, &mut block));
-    assert!(rt; queue.release(&mut block));
+    assert_eq!(rt; queue.freeze_all(&None::<Refuse>, Kind::Full, 0, &mut states, &mut block), Ok(()));
+    assert_eq!(rt; queue.release(&mut block), Ok(()));
     check_due(&rt, &mut queue, &block, &[Record::RightAlone(9)]);
 }
 
@@ -83,8 +80,8 @@ fn lets_only_the_rows_of_the_batch_leave(rt: HostRuntime) {
 fn notes_up_to_the_last_place(rt: HostRuntime) {
     let mut block = [row(0); 3];
     let mut queue = Queue::new();
-    assert!(rt; !queue.note_rows(Kind::Full, u32::MAX, 2, &mut block));
-    assert!(rt; queue.note_rows(Kind::Full, u32::MAX, 1, &mut block));
+    assert_eq!(rt; queue.note_rows(Kind::Full, u32::MAX, 2, &mut block), Err(Refused));
+    assert_eq!(rt; queue.note_rows(Kind::Full, u32::MAX, 1, &mut block), Ok(()));
 }
 
 #[test]
@@ -94,19 +91,15 @@ fn hands_over_a_failed_row_alone_once(rt: HostRuntime) {
     let mut queue = Queue::new();
     let at = StreamedRow { batch: 0, row: 0 };
     let reading = Reading::new(0, 0, 0);
-    assert!(rt;
-        queue.push(
+    assert_eq!(rt; queue.push(
             &mut block,
             Entry::pair(at, Record::Pair(0, 0), reading, reading),
-        )
-    );
-    assert!(rt;
-        queue.push(
+        ), Ok(()));
+    assert_eq!(rt; queue.push(
             &mut block,
             Entry::pair(at, Record::Pair(0, 1), reading, reading),
-        )
-    );
-    assert!(rt; queue.freeze(&Some(Refuse), Kind::Left, 0, &mut states, &mut block));
-    assert!(rt; queue.correct(Kind::Left, &mut block));
+        ), Ok(()));
+    assert_eq!(rt; queue.freeze(&Some(Refuse), Kind::Left, 0, &mut states, &mut block), Ok(()));
+    assert_eq!(rt; queue.correct(Kind::Left, &mut block), Ok(()));
     check_due(&rt, &mut queue, &block, &[Record::LeftAlone(0)]);
 }

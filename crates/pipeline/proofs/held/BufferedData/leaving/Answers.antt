@@ -1,20 +1,18 @@
-use Rattle.std.proofs.Common.{◌≡◌, length, take, ◌∙◌, arith, length-take-le}
-use Rattle.pipeline.proofs.Ranges.{leaving_stops, leaving_more, leaving_all}
+use Rattle.std.proofs.Common.{◌≡◌, true, false, length, take, sym, ap, ◌∙◌, rules, arith, length-take-le}
+use borrow.Author.Tests.{tests}
+use Rattle.std.specs.Option.{unwrap_or}
+use Rattle.std.proofs.lemmas.Iterator.{YieldsList-from_slice, IsFirst-from_position}
+use Rattle.pipeline.specs.declared.batch.BufferedBatch.{BufferedBatch}
+use Rattle.pipeline.specs.Held.{is_consumed}
+use Rattle.pipeline.proofs.Ranges.{leaving_first}
 use Rattle.pipeline.proofs.held.BufferedData.leaving.Goals as goal
-
-pub returns-then-not-is_consumed : goal.returns-then-not-is_consumed
-returns-then-not-is_consumed c =
-    let s = c.args.self.now in
-    leaving_stops (take s.count s.batches) c.loop-i.i _ c.loop-i.invariant _ c.loop-i-test.true c.if-not-is_consumed.ensures
-
-pub loop-i-preserved : goal.loop-i-preserved
-loop-i-preserved c =
-    let s = c.args.self.now in
-    leaving_more (take s.count s.batches) c.loop-i.i _ c.loop-i.invariant _ c.loop-i-test.true c.if-not-is_consumed.ensures
 
 pub returns : goal.returns
 returns c =
     let s = c.args.self.now in
-    let len : length (take s.count s.batches) ≡ s.count = length-take-le s.count s.batches (omega arith) in
-    let all : s.count ≡ c.loop-i.i = omega arith in
-    all ∙ leaving_all (take s.count s.batches) c.loop-i.i _ c.loop-i.invariant c.loop-i-test.false
+    let held = take s.count s.batches in
+    let len : length held ≡ s.count = length-take-le s.count s.batches (omega arith) in
+    c.unwrap_or.ensures ∙ ap (λ n. unwrap_or c.position.result n) (sym len)
+    ∙ sym (leaving_first held c.position.result
+    (IsFirst-from_position _ _ c.position.result (λ (b : BufferedBatch). is_consumed b ≡ false) (λ (b : BufferedBatch). is_consumed b ≡ true)
+    c.position.ensures.ran (YieldsList-from_slice held cc) (λ x q k. search (rules, tests)) (λ x q k. search (rules, tests))))

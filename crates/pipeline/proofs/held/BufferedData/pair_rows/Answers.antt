@@ -3,15 +3,15 @@ use Rattle.pipeline.specs.declared.entry.Entry.{Entry}
 use Rattle.pipeline.specs.Held.{holding, run_at}
 use Rattle.pipeline.proofs.Scanning.{pairs, stays, and_on, took, run_at_end, first_within, next_first, scan_row, scan_next, scan_count, scan_written, scan_left}
 use Rattle.pipeline.proofs.held.BufferedData.pair_rows.Goals as goal
-use Rattle.pipeline.proofs.held.BufferedData.pair_rows.Goals.{then-loop-at-test+else-first-at, else-loop-at-test}
+use Rattle.pipeline.proofs.held.BufferedData.pair_rows.Goals.{then-loop-at-test+then-index-known, else-loop-at-test}
 
-pub overflow_add-first : goal.overflow_add-first
-overflow_add-first g c =
+pub overflow_add-index : goal.overflow_add-index
+overflow_add-index g c =
     let few : c.scan.first ≤ 16777215 = first_within c.args.self.now c.args.rows.now c.scan.batch c.scan.first c.scan.invariant.0 in
     omega arith
 
-pub overflow_add-first-in-scan : goal.overflow_add-first-in-scan
-overflow_add-first-in-scan g c =
+pub overflow_add-first : goal.overflow_add-first
+overflow_add-first g c =
     let few : c.scan.first ≤ 16777215 = first_within c.args.self.now c.args.rows.now c.scan.batch c.scan.first c.scan.invariant.0 in
     omega arith
 
@@ -23,12 +23,15 @@ loop-at-preserved g c =
     let r = c.loop-at.at in
     let i = c.scan.first + r in
     let P = pairs {K = g.row.K.Denot} c.args.kind c.args.row c.args.place c.args.reading in
-    let known : i < min (length rows) s.held = omega (arith, c.min-known.ensures, c.if-first-at.true) in
-    let room : c.loop-at.count < length c.loop-at.out = omega (arith, c.if-count-out.false, c.loop-at.invariant.within) in
+    let known : i < min (length rows) s.held = omega (arith, c.min-known.ensures, c.if-index-known.false) in
+    let room : c.loop-at.count < length c.loop-at.out = omega (arith, c.if-count-out.false, c.loop-at.invariant.0.within) in
     let row = scan_row s rows b c.scan.first c.scan.invariant.0 _ c.scan-test.true r c.index-rows-index.result c.loop-at-test.true known in
-    and_on P c.loop-at.invariant
+    (
+      and_on P c.loop-at.invariant.0
     (took P c.loop-at.out c.loop-at.count (s.base + i, get_or rows i c.index-rows-index.result) c.pair_entry.result (run_at (holding s) b r rows) (run_at (holding s) b (r + 1) rows) room row
-    (ap (λ (e : Entry). e ∷ P (run_at (holding s) b (r + 1) rows)) (sym c.pair_entry.ensures)))
+    (ap (λ (e : Entry). e ∷ P (run_at (holding s) b (r + 1) rows)) (sym c.pair_entry.ensures))),
+      c.loop-at.invariant.1,
+    )
 
 pub scan-preserved : goal.scan-preserved
 scan-preserved g c =
@@ -39,10 +42,11 @@ scan-preserved g c =
     let P = pairs {K = g.row.K.Denot} c.args.kind c.args.row c.args.place c.args.reading in
     let known : c.min-known.result ≡ min (length rows) s.held = c.min-known.ensures in
     let over : ((get_or s.batches b (record { rows = 0; start = 0; end = 0 })).end ≤ r) ⊎ (min (length rows) s.held ≤ c.scan.first + r) =
-    elim c.loop-at-test.branch [ then-loop-at-test+else-first-at w ↦ inr (omega (arith, w.if-first-at.false)) | else-loop-at-test w ↦ inl w.loop-at-test.false ] in (
+    elim c.loop-at-test.branch [ then-loop-at-test+then-index-known w ↦ inr (omega (arith, w.if-index-known.true)) | else-loop-at-test w ↦ inl w.loop-at-test.false ] in (
       next_first s rows b c.scan.first c.scan.invariant.0 _ c.scan-test.true,
-      and_on P c.scan.invariant.1 (and_on P c.loop-at.invariant (stays P c.loop-at.out c.loop-at.count _ _ c.loop-at.invariant.within
+      and_on P c.scan.invariant.1 (and_on P c.loop-at.invariant.0 (stays P c.loop-at.out c.loop-at.count _ _ c.loop-at.invariant.0.within
           (scan_next s rows b c.scan.first c.scan.invariant.0 _ c.scan-test.true r over))),
+      c.loop-at.invariant.1,
     )
 
 pub returns-after-scan : goal.returns-after-scan
@@ -52,13 +56,13 @@ returns-after-scan g c =
     let out = c.args.out.now in
     let n = c.scan.count in
     let from = run_at (holding s) c.args.from.batch c.args.from.row rows in
-    let to = run_at (holding s) c.scan.batch c.scan.at rows in
+    let to = run_at (holding s) c.scan.batch c.scan.start rows in
     let len : length (take s.count s.batches) ≡ s.count = length-take-le s.count s.batches (omega arith) in
-    let end = run_at_end (holding s) rows c.scan.batch c.scan.at (omega (arith, c.scan-test.false)) in
+    let end = run_at_end (holding s) rows c.scan.batch c.scan.start (omega (arith, c.scan-test.false)) in
     record {
       count = scan_count c.args.kind c.args.row c.args.place c.args.reading out c.scan.out n from to c.scan.invariant.1 (inr end);
       written = scan_written c.args.kind c.args.row c.args.place c.args.reading out c.scan.out n from to c.scan.invariant.1;
-      left = scan_left c.args.kind c.args.row c.args.place c.args.reading out c.scan.out n from to c.scan.invariant.1;
+      left = ap (λ p. run_at (holding s) p.batch p.row rows) c.scan.invariant.2 ∙ run_at_end (holding s) rows s.count 0 (omega arith) ∙ sym end ∙ scan_left c.args.kind c.args.row c.args.place c.args.reading out c.scan.out n from to c.scan.invariant.1;
     }
 
 pub returns-then-count-out : goal.returns-then-count-out
@@ -70,7 +74,7 @@ returns-then-count-out g c =
     let from = run_at (holding s) c.args.from.batch c.args.from.row rows in
     let to = run_at (holding s) c.scan.batch c.loop-at.at rows in
     let P = pairs {K = g.row.K.Denot} c.args.kind c.args.row c.args.place c.args.reading in
-    let goes = and_on P c.scan.invariant.1 c.loop-at.invariant in
+    let goes = and_on P c.scan.invariant.1 c.loop-at.invariant.0 in
     let full : n ≡ length out = c.if-count-out.true ∙ goes.long in
     record {
       count = scan_count c.args.kind c.args.row c.args.place c.args.reading out c.loop-at.out n from to goes (inl full);

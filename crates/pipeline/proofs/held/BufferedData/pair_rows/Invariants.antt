@@ -1,4 +1,4 @@
-use Rattle.std.proofs.Common.{◌≡◌, ◌-◌, take}
+use Rattle.std.proofs.Common.{◌≡◌, take}
 use Rattle.pipeline.specs.Batches.{rows_of}
 use Rattle.pipeline.specs.Held.{holding, run_at}
 use Rattle.pipeline.proofs.Scanning.{Goes, pairs}
@@ -6,15 +6,11 @@ use Rattle.pipeline.proofs.held.BufferedData.pair_rows.Given as goal
 
 abbrev pub invariant-loop-at : goal.invariant-loop-at
 invariant-loop-at g l =
-    Goes (pairs l.kind l.row l.place l.reading) l.initial.out l.initial.count (run_at (holding l.self) l.batch l.initial.at l.rows) l.out l.count (run_at (holding l.self) l.batch l.at l.rows)
-
-abbrev pub decreases-loop-at : goal.decreases-loop-at
-decreases-loop-at g l = l.range.end - l.at
+    Goes (pairs l.kind l.row l.place l.reading) l.initial.out l.initial.count (run_at (holding l.self) l.batch l.start l.rows) l.out l.count (run_at (holding l.self) l.batch l.at l.rows)
+    × (l.position ≡ record { batch = l.self.count; row = 0 })
 
 abbrev pub invariant-scan : goal.invariant-scan
 invariant-scan g l =
     (l.first ≡ rows_of (take l.batch (take l.self.count l.self.batches)))
-    × Goes (pairs l.kind l.row l.place l.reading) l.initial.out l.initial.count (run_at (holding l.self) l.initial.batch l.initial.at l.rows) l.out l.count (run_at (holding l.self) l.batch l.at l.rows)
-
-abbrev pub decreases-scan : goal.decreases-scan
-decreases-scan g l = l.self.count - l.batch
+    × Goes (pairs l.kind l.row l.place l.reading) l.initial.out l.initial.count (run_at (holding l.self) l.fn.from.batch l.fn.from.row l.rows) l.out l.count (run_at (holding l.self) l.batch l.start l.rows)
+    × (l.position ≡ record { batch = l.self.count; row = 0 })

@@ -1,4 +1,4 @@
-use Rattle.std.proofs.Common.{◌+◌, ◌≤◌, cond, length, sym, ap, ◌∙◌, arith}
+use Rattle.std.proofs.Common.{◌+◌, ◌≤◌, cond, is_ok, length, sym, ap, ◌∙◌, arith}
 use Rattle.pipeline.specs.Freezing.{asking, judged_all}
 use Rattle.pipeline.specs.States.{states_of, marking}
 use Rattle.pipeline.proofs.Queues.{room_parts, freeze_all_step, brought_unfrozen}
@@ -15,5 +15,5 @@ returns g c =
     record {
       block = freeze_all_step q block c.bring_in.new.block parts.0 fits c.bring_in.ensures asks c.freeze.result c.freeze.new.self c.freeze.new.block c.freeze.ensures.block;
       states = c.freeze.ensures.states
-          ∙ ap (λ l. cond c.freeze.result (marking c.args.kind c.args.base (judged_all asks l) states) states) (brought_unfrozen q block c.bring_in.new.block parts.0 fits c.bring_in.ensures);
+          ∙ ap (λ l. cond (is_ok c.freeze.result) (marking c.args.kind c.args.base (judged_all asks l) states) states) (brought_unfrozen q block c.bring_in.new.block parts.0 fits c.bring_in.ensures);
     }
