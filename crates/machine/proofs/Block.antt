@@ -3,7 +3,7 @@ use Rattle.std.proofs.Common.{◌≡◌, ℕ, ◌<◌, ◌≤◌, Bool, true, fa
 use Rattle.std.specs.List.{AllByRecursion}
 use Rattle.std.proofs.ByRecursion.{All-append, All-weaker}
 use Rattle.rows.specs.declared.record.Record.{Record}
-use Rattle.merge.specs.Sides.{oriented}
+use Rattle.rows.specs.Sides.{oriented}
 use Rattle.law.specs.Pipe.{Mark, pipe, fixeds, alones, put}
 use Rattle.law.specs.Pipe.{Entry as plain_entry, freeze as plain_freeze, freeze_all as plain_freeze_all, correct as plain_correct, corrected as plain_corrected, flush as plain_flush, marking as plain_marking}
 use Rattle.pipeline.specs.declared.entry.Entry.{Entry}

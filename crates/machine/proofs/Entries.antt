@@ -7,7 +7,7 @@ use Rattle.rows.specs.declared.kind.Kind.TheVariants.{Inner, Left, Right, Full}
 use Rattle.rows.specs.declared.reading.Reading.{Reading}
 use Rattle.rows.specs.declared.record.Record.{Record}
 use Rattle.rows.specs.declared.record.Record.TheVariants.{Pair, LeftAlone, RightAlone}
-use Rattle.merge.specs.Sides.{oriented}
+use Rattle.rows.specs.Sides.{oriented}
 use Rattle.merge.specs.Table.{when}
 use Rattle.law.specs.Pipe.{fixed, judged, Mark, unseen, failing, met, goes_on, plain, alones, fixeds, failures, is_failing}
 use Rattle.law.specs.Pipe.{Entry as plain_entry, corrected as plain_corrected, marking as plain_marking, marked as plain_marked, mark_at as plain_mark_at}

@@ -1,12 +1,11 @@
 -- The weight falls with every small step that goes on, and the measure with every step and every record handed over.
-use Rattle.std.proofs.Common.{◌≡◌, ℕ, zero, suc, ◌+◌, ◌-◌, ◌*◌, ◌<◌, ◌≤◌, Bool, true, false, cond, ◌&&◌, ltb, leb, List, [], ◌∷◌, length, take, drop, Some, None, Ok, Option, Ordering, Less, Equal, Greater, refl, ap, ◌∙◌, subst, mul-le-mul_left, mul-suc, arith, length-drop, length-take}
+use Rattle.std.proofs.Common.{◌≡◌, ℕ, zero, suc, ◌+◌, ◌-◌, ◌*◌, ◌<◌, ◌≤◌, Bool, true, false, cond, ◌&&◌, ltb, leb, List, [], ◌∷◌, length, take, drop, Some, None, Err, Ok, Option, Ordering, Less, Equal, Greater, refl, ap, ◌∙◌, subst, mul-le-mul_left, mul-suc, arith, length-drop, length-take}
 use Rattle.std.proofs.lemmas.Bool.{ltb-true, lt-ltb, le-ltb, lt-leb, cond-true, cond-false}
 use Rattle.rows.specs.Order.{is_same}
 use Rattle.rows.specs.declared.record.Record.{Record}
 use Rattle.rows.specs.declared.row.Row.{Row}
-use Rattle.sources.specs.declared.source.Closing.{Closing}
-use Rattle.sources.specs.declared.source.Closing.TheVariants.{End as ended, Fault as faulted}
-use Rattle.merge.specs.Sides.{is_outer}
+use Rattle.sources.specs.Meaning.{Closing}
+use Rattle.rows.specs.Sides.{is_outer}
 use Rattle.pipeline.specs.declared.batch.BufferedBatch.{BufferedBatch}
 use Rattle.pipeline.specs.declared.entry.Entry.{Entry}
 use Rattle.pipeline.specs.Block.{Queued, pushed, freeze}
@@ -85,9 +84,9 @@ module _ {K : Type 0} (c : Setting K) where
       taken false (x ∷ es) r l u e = omega (arith, ap any_of u, ap any_of (let_go_unfrozen (deferred c) (freeze c.asks q)))
 
       go : (first : Bool) (l : List (List (Row K))) (e : Closing) → st.batches ≡ l → Below (weight_in c (fetching first) st bf q) (fetch_from c first l e st bf q n)
-      go true [] ended e = omega arith
-      go false [] ended e = omega arith
-      go first [] (faulted f) e = tt
+      go true [] (Ok end) e = omega arith
+      go false [] (Ok end) e = omega arith
+      go first [] (Err f) e = tt
       go true ([] ∷ l) z e = omega (arith, ap length e)
       go false ([] ∷ l) z e = omega (arith, ap length e)
       go first ((x ∷ r) ∷ l) z e =
@@ -104,8 +103,8 @@ module _ {K : Type 0} (c : Setting K) where
       checked (Some k) r l e = tt
 
       go : (l : List (List (Row K))) (z : Closing) → bf.batches ≡ l → Below w (load_from c over ph l z st bf q n)
-      go [] ended e = o
-      go [] (faulted f) e = tt
+      go [] (Ok end) e = o
+      go [] (Err f) e = tt
       go ([] ∷ l) z e = h (passed_over c l bf) (omega (arith, ap length e)) (omega (arith, ap rows_within e)) refl (omega arith)
       go ((x ∷ r) ∷ l) z e =
           below_cond w (leb (buffered_read bf + length (x ∷ r)) most_rows) _ _

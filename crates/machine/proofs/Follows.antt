@@ -11,8 +11,8 @@ use Rattle.rows.specs.declared.reading.Reading.{Reading}
 use Rattle.rows.specs.declared.record.Record.{Record}
 use Rattle.rows.specs.declared.row.Row.{Row}
 use Rattle.sources.specs.declared.fault.SourceFault.{SourceFault}
-use Rattle.merge.specs.Sides.{oriented}
-use Rattle.merge.specs.Sides.{left_of as left_side, right_of as right_side}
+use Rattle.rows.specs.Sides.{oriented}
+use Rattle.rows.specs.Sides.{left_of as left_side, right_of as right_side}
 use Rattle.law.specs.Pipe.{Mark, Pipe, pipe, judged, fixed}
 use Rattle.law.specs.Pipe.{Entry as plain_entry, freeze_full as plain_freeze_full, freeze_all as plain_freeze_all, flush as plain_flush}
 use Rattle.law.specs.Machine as plain_machine
@@ -27,7 +27,7 @@ use Rattle.pipeline.specs.Held.{pairs_with, matching}
 use Rattle.machine.specs.Machine.{Setting, Phase, fetching, closing, turning, passing, pairing, Streamed, Buffered, Counts, Core, core, Outcome, deferred, marked_by, freeze_full, pair_row, lone_row, row_at, place, pass_row, next_row, close, go_on, with_holding, counted_row}
 use Rattle.machine.specs.Machine.{going as goes, answered as says}
 use Rattle.machine.proofs.Entries.{mark_of, entry_of, place_of, Made, Frozen, Noted, oriented_streamed, place_of_pair, entries_append, length_marking}
-use Rattle.machine.proofs.Plain.{answer_of, closing_of, row_of, Placed, phase_of, streamed_of, buffered_of, counts_of, plain_setting, pipe_of, state_at, state_of, Whole, WholeStreamed, WholeBuffered, Poised}
+use Rattle.machine.proofs.Plain.{answer_of, row_of, Placed, phase_of, streamed_of, buffered_of, counts_of, plain_setting, pipe_of, state_at, state_of, Whole, WholeStreamed, WholeBuffered, Poised}
 use Rattle.machine.proofs.Block.{block, all_frozen_is, all_frozen_are, let_go_whole, flushed_is, flush_whole}
 
 -- the sides of readings by either definition
@@ -199,10 +199,10 @@ module _ {K V : Type 0} (c : Setting K) (fits : V → Record → Bool) (after : 
       start = (bf.holding.base + bf.holding.end) - length (p ∷ todo)
 
       at_rows : List (Row K) → List (Row K) → PlainState
-      at_rows r td = plain_machine.state (plain_machine.streamed st.batches (closing_of st.closing) r (st.first + st.at) st.ended st.last) (buffered_of bf) (pipe_of c bf.holding.base bf.states q) (counts_of n) v (plain_machine.pairing td start)
+      at_rows r td = plain_machine.state (plain_machine.streamed st.batches st.closing r (st.first + st.at) st.ended st.last) (buffered_of bf) (pipe_of c bf.holding.base bf.states q) (counts_of n) v (plain_machine.pairing td start)
 
       then_rows : List (Row K) → List plain_entry → List (Row K) → ℕ → PlainState
-      then_rows r u td k = plain_machine.state (plain_machine.streamed st.batches (closing_of st.closing) r (st.first + st.at) st.ended st.last) (buffered_of bf)
+      then_rows r u td k = plain_machine.state (plain_machine.streamed st.batches st.closing r (st.first + st.at) st.ended st.last) (buffered_of bf)
           (plain_freeze_full (deferred c) c.size (pipe bf.holding.base (map mark_of bf.states) (map (place_of c.kind c.asks) q.noted) u (map (entry_of c.kind c.asks) q.frozen) (map (oriented c.kind) q.due))) (counts_of n) v (plain_machine.pairing td k)
 
       go : (room : ℕ) → c.size - length q.unfrozen ≡ room → Followed (state_at c st bf q n (pairing (p ∷ todo)) v) v (freeze_full c (pairing (drop room (p ∷ todo))) st bf (pushed (pairs_with c.kind at (place c st) x.reading (take room (p ∷ todo))) q) n)
@@ -213,7 +213,7 @@ module _ {K V : Type 0} (c : Setting K) (fits : V → Record → Bool) (after : 
           let more : List Entry = pairs_with c.kind at (place c st) x.reading (take (suc m) (p ∷ todo)) in
           let unfrozen = map (entry_of c.kind c.asks) q.unfrozen in
           let t = w.poised.2 in
-          let w₁ = walk_pairs plain st.batches (closing_of st.closing) x (drop (suc st.at) st.rows) (st.first + st.at) st.ended st.last (buffered_of bf) bf.holding.base (map mark_of bf.states) (map (place_of c.kind c.asks) q.noted) unfrozen
+          let w₁ = walk_pairs plain st.batches st.closing x (drop (suc st.at) st.rows) (st.first + st.at) st.ended st.last (buffered_of bf) bf.holding.base (map mark_of bf.states) (map (place_of c.kind c.asks) q.noted) unfrozen
           (map (entry_of c.kind c.asks) q.frozen) (map (oriented c.kind) q.due) (counts_of n) v p.1 (map row_of (take m todo)) (map row_of (drop m todo)) start (ap (map (oriented c.kind)) z)
           (omega (arith, length-map q.unfrozen (entry_of c.kind c.asks), length-map (take m todo) row_of, length-take m todo)) in
           follows_full (pairing (drop m todo)) st bf q.noted (q.unfrozen ++ more) q.frozen q.due n v _
@@ -259,7 +259,7 @@ module _ {K V : Type 0} (c : Setting K) (fits : V → Record → Bool) (after : 
   follows_pass st bf q n v s en z w = go (drop st.at st.rows) refl
     where
       on : List (Row K) → ℕ → plain_machine.Phase (Row K) SourceFault → plain_machine.Outcome (Row K) SourceFault V
-      on l k ph = going (plain_machine.state (plain_machine.streamed st.batches (closing_of st.closing) l k st.ended st.last) (buffered_of bf) (pipe_of c bf.holding.base bf.states q) (counts_of (counted_row n)) v ph)
+      on l k ph = going (plain_machine.state (plain_machine.streamed st.batches st.closing l k st.ended st.last) (buffered_of bf) (pipe_of c bf.holding.base bf.states q) (counts_of (counted_row n)) v ph)
 
       go : (r : List (Row K)) → drop st.at st.rows ≡ r → Followed (state_at c st bf q n passing v) v (pass_row c st bf q n)
       go [] e = absurd (s e)
@@ -267,7 +267,7 @@ module _ {K V : Type 0} (c : Setting K) (fits : V → Record → Bool) (after : 
           let inside : st.at < length st.rows = omega (arith, length-drop st.at st.rows, ap length e) in
           rw (lt-ltb _ _ inside) (
             walk (calm plain _ _ _ _ _ _ _ (map (oriented c.kind) q.due) _ v _ (ap (map (oriented c.kind)) z)
-                ∙ ap (λ (l : List (Row K)). plain_machine.pass plain (plain_machine.streamed st.batches (closing_of st.closing) l (st.first + st.at) st.ended st.last) (buffered_of bf) (pipe_of c bf.holding.base bf.states q) (counts_of n) v) e
+                ∙ ap (λ (l : List (Row K)). plain_machine.pass plain (plain_machine.streamed st.batches st.closing l (st.first + st.at) st.ended st.last) (buffered_of bf) (pipe_of c bf.holding.base bf.states q) (counts_of n) v) e
                 ∙ ap (λ (l : List (Row K)). on l (suc (st.first + st.at)) (plain_machine.after_row plain l)) (sym (next_drop st.at st.rows x r e))
                 ∙ ap (λ (k : ℕ). on (drop (st.at + 1) st.rows) k (plain_machine.after_row plain (drop (st.at + 1) st.rows))) (omega arith)
                 ∙ ap (on (drop (st.at + 1) st.rows) (st.first + (st.at + 1))) (after_is c.kind (bf.holding.base + bf.holding.end) (st.at + 1) st.rows)) stay,

@@ -8,7 +8,7 @@ use Rattle.std.proofs.lemmas.List.{take_at, drop_at, take_all, take-map, drop-ma
 use Rattle.std.proofs.lemmas.Bool.{lt-ltb, le-ltb, le-leb, lt-leb, eqb-true, eqb-false, cases_lt}
 use Rattle.rows.specs.declared.record.Record.{Record}
 use Rattle.merge.specs.Table.{when}
-use Rattle.merge.specs.Sides.{is_full}
+use Rattle.rows.specs.Sides.{is_full}
 use Rattle.law.specs.Pipe.{Mark, unseen, failing, met, fixeds, alones, places, failures, Left, left, giving}
 use Rattle.law.specs.Pipe.{Entry as plain_entry, leave as plain_leave}
 use Rattle.law.proofs.Totals.{total, total_append}

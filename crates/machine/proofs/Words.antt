@@ -15,14 +15,13 @@ use Rattle.rows.specs.declared.record.Record.{Record}
 use Rattle.rows.specs.declared.row.Row.{Row}
 use Rattle.rows.specs.Order.{Laws}
 use Rattle.sources.specs.declared.fault.SourceFault.{SourceFault}
-use Rattle.sources.specs.declared.source.Closing.{Closing}
-use Rattle.sources.specs.declared.source.Closing.TheVariants.{End, Fault}
+use Rattle.sources.specs.Meaning.{Closing}
 use Rattle.sinks.specs.Meaning.{Led}
 use Rattle.merge.specs.Table.{Distinct, table}
 use Rattle.merge.specs.Runs.{runs}
 use Rattle.merge.specs.Path.{start, tally, one_row, one_run}
 use Rattle.merge.specs.Decided.{Follows}
-use Rattle.merge.specs.Sides.{is_right, streamed_of, buffered_of, left_of, right_of, is_outer, is_full, oriented}
+use Rattle.rows.specs.Sides.{is_right, streamed_of, buffered_of, left_of, right_of, is_outer, is_full, oriented}
 use Rattle.merge.specs.Joined.{Asks, passes, InTable, joined}
 use Rattle.merge.specs.Merging.{by_key}
 use Rattle.merge.proofs.Sides.{oriented_twice, distinct_oriented, perm_map}
@@ -40,7 +39,7 @@ use Rattle.machine.specs.declared.fault.JoinFault.TheVariants.{Unsorted, TableFu
 use Rattle.machine.specs.Machine.{Setting, Told, Phase, fetching, seeding, extending, closing, turning, passing, done, pairing, stopped, Streamed, Buffered, Counts, Core, core, Turned, last_of, streamed_side, buffered_side, streamed_read, buffered_read, most_handed}
 use Rattle.machine.specs.Report.{reported}
 use Rattle.machine.specs.Law.{Log, rows_in, is_over, fails, has_failed, InOrderAfter, answers_of_more, setting, at_opening, Runs, none, turned, MayFollow, Lawful, Law, LawOfRuns}
-use Rattle.machine.proofs.Plain.{fault_of, answer_of, closing_of, phase_of, run_of, plain_setting, state_of, first_of, Whole}
+use Rattle.machine.proofs.Plain.{fault_of, answer_of, phase_of, run_of, plain_setting, state_of, first_of, Whole}
 use Rattle.machine.proofs.Follows.{WholeCore}
 use Rattle.machine.proofs.Fetch.{last_is}
 use Rattle.machine.proofs.Steps.{follows_call}
@@ -52,9 +51,9 @@ rows_same : {A : Type 0} (l : List (List A)) → rows_in l ≡ plain_law.rows_in
 rows_same [] = refl
 rows_same {A} (b ∷ l) = ap (λ (r : List A). b ++ r) (rows_same l)
 
-over_same : {A : Type 0} (l : List (List A)) (e : Closing) → is_over l e ≡ plain_law.is_over l (closing_of e)
-over_same [] End = refl
-over_same [] (Fault f) = refl
+over_same : {A : Type 0} (l : List (List A)) (e : Closing) → is_over l e ≡ plain_law.is_over l e
+over_same [] (Ok end) = refl
+over_same [] (Err f) = refl
 over_same (b ∷ l) e = refl
 
 more_same : (kind : Kind) (told : List Told) → answers_of_more told ≡ plain_law.mores (map (answer_of kind) told)
@@ -139,7 +138,7 @@ buffered_fails {K} kind to (stopped f) = go kind f
     go kind (Source s g) = refl
 
 -- nothing may follow where the plain machine says so
-over_follows : {A : Type 0} (failed : Bool) (told : Bool) (l : List (List A)) (e : Closing) → (told ≡ true → failed ≡ true) → plain_law.over failed l (closing_of e) ≡ true → (not told && is_over l e) ≡ true
+over_follows : {A : Type 0} (failed : Bool) (told : Bool) (l : List (List A)) (e : Closing) → (told ≡ true → failed ≡ true) → plain_law.over failed l e ≡ true → (not told && is_over l e) ≡ true
 over_follows true told l e h k = absurd (false≢true k)
 over_follows false true l e h k = absurd (false≢true (h refl))
 over_follows false false l e h k = over_same l e ∙ k
@@ -159,14 +158,14 @@ module _ {K V : Type 0} (kind : Kind) (within across : K → K → Ordering) (fi
   abbrev sl : List (List (Row K))
   sl = streamed_of kind lefts.batches rights.batches
 
-  abbrev sc : plain_machine.Closing SourceFault
-  sc = closing_of (streamed_of kind lefts.closing rights.closing)
+  abbrev sc : Closing
+  sc = streamed_of kind lefts.closing rights.closing
 
   abbrev bl : List (List (Row K))
   bl = buffered_of kind lefts.batches rights.batches
 
-  abbrev bc : plain_machine.Closing SourceFault
-  bc = closing_of (buffered_of kind lefts.closing rights.closing)
+  abbrev bc : Closing
+  bc = buffered_of kind lefts.closing rights.closing
 
   abbrev batch_of : ℕ → ℕ
   batch_of = first_of 0 sl
@@ -295,14 +294,14 @@ module _ {K V : Type 0} (kind : Kind) (within across : K → K → Ordering) (fi
           let h = sound_runs (streamed_side kind) r in
           either Follows (is_right kind) _ _ r' l m.right_ended m.left_ended
           (streamed_words kind ∙ over_follows (plain_law.streamed_failed (phase_of kind (bf.holding.base + bf.holding.end) ph)) (has_failed (streamed_side kind) told) st.batches (streamed_of kind lefts.closing rights.closing) (λ t. streamed_fails kind _ ph ∙ h.stopped_so t)
-          (ap (λ (z : Closing). plain_law.over (plain_law.streamed_failed (phase_of kind (bf.holding.base + bf.holding.end) ph)) st.batches (closing_of z)) (sym h.closes.0) ∙ e))
+          (ap (λ (z : Closing). plain_law.over (plain_law.streamed_failed (phase_of kind (bf.holding.base + bf.holding.end) ph)) st.batches z) (sym h.closes.0) ∙ e))
 
       follows_b : Follows (plain_law.buffered_over s₂) (buffered_of kind l r')
       follows_b e =
           let h = sound_runs (buffered_side kind) r in
           either Follows (is_right kind) _ _ l r' m.left_ended m.right_ended
           (buffered_words kind ∙ over_follows (plain_law.buffered_failed (phase_of kind (bf.holding.base + bf.holding.end) ph)) (has_failed (buffered_side kind) told) bf.batches (buffered_of kind lefts.closing rights.closing) (λ t. buffered_fails kind _ ph ∙ h.stopped_so t)
-          (ap (λ (z : Closing). plain_law.over (plain_law.buffered_failed (phase_of kind (bf.holding.base + bf.holding.end) ph)) bf.batches (closing_of z)) (sym h.closes.1) ∙ e))
+          (ap (λ (z : Closing). plain_law.over (plain_law.buffered_failed (phase_of kind (bf.holding.base + bf.holding.end) ph)) bf.batches z) (sym h.closes.1) ∙ e))
 
       abbrev OrderedAfter : List (Row K) → List (Row K) → Type 0
       OrderedAfter a b = InOrderAfter within (last_of None a) b

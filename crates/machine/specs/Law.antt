@@ -8,14 +8,13 @@ use Rattle.rows.specs.declared.kind.Side.{Side}
 use Rattle.rows.specs.declared.kind.Side.TheVariants.{Left, Right}
 use Rattle.rows.specs.declared.record.Record.{Record}
 use Rattle.rows.specs.declared.row.Row.{Row}
-use Rattle.sources.specs.declared.source.Closing.{Closing}
-use Rattle.sources.specs.declared.source.Closing.TheVariants.{End, Fault}
+use Rattle.sources.specs.Meaning.{Closing}
 use Rattle.sinks.specs.Meaning.{Led}
 use Rattle.merge.specs.Table.{Distinct}
 use Rattle.merge.specs.Runs.{Leads, Sorted, runs}
 use Rattle.merge.specs.Path.{start, tally, one_row, one_run}
 use Rattle.merge.specs.Decided.{Follows}
-use Rattle.merge.specs.Sides.{streamed_of, buffered_of, left_of, right_of, is_outer, is_full}
+use Rattle.rows.specs.Sides.{streamed_of, buffered_of, left_of, right_of, is_outer, is_full}
 use Rattle.merge.specs.Joined.{Asks, lets_through, passes, InTable, joined}
 use Rattle.merge.specs.Merging.{by_key}
 use Rattle.machine.specs.declared.answer.Answer.TheVariants.{More, Waiting, Finished}
@@ -37,8 +36,8 @@ rows_in (b ∷ l) = b ++ rows_in l
 
 -- the source holds no batch more and answers the end
 abbrev pub is_over : {A : Type 0} → List (List A) → Closing → Bool
-is_over [] End = true
-is_over [] (Fault f) = false
+is_over [] (Ok end) = true
+is_over [] (Err f) = false
 is_over (b ∷ l) e = false
 
 abbrev pub is_side : Side → Side → Bool

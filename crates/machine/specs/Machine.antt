@@ -10,13 +10,12 @@ use Rattle.rows.specs.declared.kind.Side.TheVariants.{Left as on_left, Right as 
 use Rattle.rows.specs.declared.reading.Reading.{Reading}
 use Rattle.rows.specs.declared.record.Record.{Record}
 use Rattle.rows.specs.declared.row.Row.{Row}
-use Rattle.sources.specs.declared.source.Closing.{Closing}
-use Rattle.sources.specs.declared.source.Closing.TheVariants.{End as ended, Fault as faulted}
+use Rattle.sources.specs.Meaning.{Closing}
 use Rattle.pipeline.specs.declared.entry.Entry.{Entry}
 use Rattle.pipeline.specs.declared.batch.BufferedBatch.{BufferedBatch}
 use Rattle.pipeline.specs.declared.states.FilterState.{FilterState}
 use Rattle.pipeline.specs.declared.states.FilterState.TheVariants.{Unvisited}
-use Rattle.merge.specs.Sides.{is_outer, is_full}
+use Rattle.rows.specs.Sides.{is_outer, is_full}
 use Rattle.pipeline.specs.Entries.{lone}
 use Rattle.pipeline.specs.Orient.{streamed_alone}
 use Rattle.pipeline.specs.States.{marking}
@@ -211,8 +210,8 @@ module _ {K : Type 0} (c : Setting K) where
   at_end st = record { batches = st.batches; closing = st.closing; first = st.first; rows = st.rows; at = st.at; ended = true; last = st.last }
 
   abbrev pub fetch_from : Bool → List (List (Row K)) → Closing → Streamed K → Buffered K → Queued → Counts → Outcome K
-  fetch_from first [] ended st bf q n = going (core (at_end st) bf q n (after_fetch first))
-  fetch_from first [] (faulted f) st bf q n = stops (Source (streamed_side c.kind) f) st bf q n
+  fetch_from first [] (Ok end) st bf q n = going (core (at_end st) bf q n (after_fetch first))
+  fetch_from first [] (Err f) st bf q n = stops (Source (streamed_side c.kind) f) st bf q n
   fetch_from first ([] ∷ l) e st bf q n = going (core (skipped l st) bf q n (fetching first))
   fetch_from first ((x ∷ r) ∷ l) e st bf q n =
       cond (nat_le (streamed_read st + length (x ∷ r)) most_rows)
@@ -240,8 +239,8 @@ module _ {K : Type 0} (c : Setting K) where
   load_checked (Some k) ph r l st bf q n = stops (Unsorted (buffered_side c.kind) k) st (passed_over l bf) q n
 
   abbrev pub load_from : Outcome K → Phase K → List (List (Row K)) → Closing → Streamed K → Buffered K → Queued → Counts → Outcome K
-  load_from over ph [] ended st bf q n = over
-  load_from over ph [] (faulted f) st bf q n = stops (Source (buffered_side c.kind) f) st bf q n
+  load_from over ph [] (Ok end) st bf q n = over
+  load_from over ph [] (Err f) st bf q n = stops (Source (buffered_side c.kind) f) st bf q n
   load_from over ph ([] ∷ l) e st bf q n = going (core st (passed_over l bf) q n ph)
   load_from over ph ((x ∷ r) ∷ l) e st bf q n =
       cond (nat_le (buffered_read bf + length (x ∷ r)) most_rows)
