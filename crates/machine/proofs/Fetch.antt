@@ -9,7 +9,7 @@ use Rattle.rows.specs.declared.row.Row.{Row}
 use Rattle.rows.specs.Order.{is_after}
 use Rattle.sources.specs.declared.fault.SourceFault.{SourceFault}
 use Rattle.sources.specs.Meaning.{Closing}
-use Rattle.rows.specs.Sides.{oriented, is_right}
+use Rattle.rows.specs.Sides.{streamed_side, buffered_side, oriented, is_right}
 use Rattle.merge.specs.Merging.{by_key}
 use Rattle.law.specs.Pipe.{Pipe}
 use Rattle.law.specs.Machine as plain_machine
@@ -20,7 +20,7 @@ use Rattle.pipeline.specs.States.{marking}
 use Rattle.pipeline.specs.Block.{Queued, freeze}
 use Rattle.machine.specs.declared.fault.JoinFault.{JoinFault}
 use Rattle.machine.specs.declared.fault.JoinFault.TheVariants.{Unsorted, TableFull, TooManyRows, Source}
-use Rattle.machine.specs.Machine.{Setting, fetching, Streamed, Buffered, Counts, Outcome, deferred, let_go, disorder, last_of, streamed_side, buffered_side, stops, after_fetch, fetch_checked, fetch_taken, fetch_from, fetch, most_rows}
+use Rattle.machine.specs.Machine.{Setting, fetching, Streamed, Buffered, Counts, Outcome, deferred, let_go, disorder, last_of, stops, after_fetch, fetch_checked, fetch_taken, fetch_from, fetch, most_rows}
 use Rattle.machine.proofs.Entries.{frozen_judged}
 use Rattle.machine.proofs.Plain.{side_of, fault_of, phase_of, streamed_of, buffered_of, counts_of, plain_setting, pipe_of, state_at, Whole, WholeStreamed, WholeBuffered, WholeBlock, Poised, Ahead, Opening, first_of}
 use Rattle.machine.proofs.Block.{block, frozen_is, let_go_whole}

@@ -9,7 +9,7 @@ use Rattle.rows.specs.declared.row.Row.{Row}
 use Rattle.rows.specs.Order.{is_same}
 use Rattle.sources.specs.declared.fault.SourceFault.{SourceFault}
 use Rattle.sources.specs.Meaning.{Closing}
-use Rattle.rows.specs.Sides.{oriented}
+use Rattle.rows.specs.Sides.{buffered_side, oriented}
 use Rattle.merge.specs.Merging.{by_key}
 use Rattle.law.specs.Pipe.{Mark, unseen, Pipe, pipe}
 use Rattle.law.specs.Pipe.{Entry as plain_entry}
@@ -23,7 +23,7 @@ use Rattle.pipeline.specs.Block.{Queued}
 use Rattle.pipeline.specs.Held.{Holding, on_last, longer, same_run, most_end}
 use Rattle.pipeline.specs.Held.{pushed as with_batch}
 use Rattle.machine.specs.declared.fault.JoinFault.TheVariants.{Unsorted, TableFull, TooManyBatches, TooManyRows, Source}
-use Rattle.machine.specs.Machine.{Setting, Phase, Streamed, Buffered, Counts, Outcome, disorder, last_of, buffered_side, load_checked, load_from, most_rows, most_batches}
+use Rattle.machine.specs.Machine.{Setting, Phase, Streamed, Buffered, Counts, Outcome, disorder, last_of, load_checked, load_from, most_rows, most_batches}
 use Rattle.machine.specs.Machine.{going as goes, answered as says}
 use Rattle.machine.proofs.Entries.{mark_of, entry_of, place_of}
 use Rattle.machine.proofs.Plain.{phase_of, streamed_of, buffered_of, counts_of, plain_setting, pipe_of, size_of, WholeStreamed, WholeBuffered, WholeBlock, Poised, reach, FullButLast, first_start, first_rows}

@@ -9,6 +9,7 @@ use Rattle.rows.specs.Order.{Laws}
 use Rattle.sources.specs.declared.fault.SourceFault.{SourceFault}
 use Rattle.merge.specs.Table.{when}
 use Rattle.merge.specs.Merging.{by_key}
+use Rattle.sources.specs.Meaning.{Closing}
 use Rattle.rows.specs.Sides.{oriented}
 use Rattle.rows.specs.Sides.{is_full as is_full_kind}
 use Rattle.merge.proofs.Sides.{oriented_twice}

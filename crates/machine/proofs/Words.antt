@@ -21,7 +21,7 @@ use Rattle.merge.specs.Table.{Distinct, table}
 use Rattle.merge.specs.Runs.{runs}
 use Rattle.merge.specs.Path.{start, tally, one_row, one_run}
 use Rattle.merge.specs.Decided.{Follows}
-use Rattle.rows.specs.Sides.{is_right, streamed_of, buffered_of, left_of, right_of, is_outer, is_full, oriented}
+use Rattle.rows.specs.Sides.{streamed_side, buffered_side, is_right, streamed_of, buffered_of, left_of, right_of, is_outer, is_full, oriented}
 use Rattle.merge.specs.Joined.{Asks, passes, InTable, joined}
 use Rattle.merge.specs.Merging.{by_key}
 use Rattle.merge.proofs.Sides.{oriented_twice, distinct_oriented, perm_map}
@@ -36,7 +36,7 @@ use Rattle.pipeline.specs.Block.{Queued}
 use Rattle.machine.specs.declared.answer.Answer.TheVariants.{More, Waiting, Finished}
 use Rattle.machine.specs.declared.fault.JoinFault.{JoinFault}
 use Rattle.machine.specs.declared.fault.JoinFault.TheVariants.{Unsorted, TableFull, TooManyBatches, TooManyRows, Source}
-use Rattle.machine.specs.Machine.{Setting, Told, Phase, fetching, seeding, extending, closing, turning, passing, done, pairing, stopped, Streamed, Buffered, Counts, Core, core, Turned, last_of, streamed_side, buffered_side, streamed_read, buffered_read, most_handed}
+use Rattle.machine.specs.Machine.{Setting, Told, Phase, fetching, seeding, extending, closing, turning, passing, done, pairing, stopped, Streamed, Buffered, Counts, Core, core, Turned, last_of, streamed_read, buffered_read, most_handed}
 use Rattle.machine.specs.Report.{reported}
 use Rattle.machine.specs.Law.{Log, rows_in, is_over, fails, has_failed, InOrderAfter, answers_of_more, setting, at_opening, Runs, none, turned, MayFollow, Lawful, Law, LawOfRuns}
 use Rattle.machine.proofs.Plain.{fault_of, answer_of, phase_of, run_of, plain_setting, state_of, first_of, Whole}
@@ -63,7 +63,7 @@ more_same kind (Ok Waiting ∷ told) = ap (λ (n : ℕ). 0 + n) (more_same kind 
 more_same kind (Ok Finished ∷ told) = ap (λ (n : ℕ). 0 + n) (more_same kind told)
 more_same kind (Err f ∷ told) = ap (λ (n : ℕ). 0 + n) (more_same kind told)
 
-order_same : {K : Type 0} (within : K → K → Ordering) (w : Option (Row K)) (l : List (Row K)) → InOrderAfter within w l → plain_law.GoesOn (by_key within) w l
+order_same : {K : Type 0} (within : K → K → Ordering) (w : Option (Row K)) (l : List (Row K)) → InOrderAfter within w l → plain_law.InOrderAfter (by_key within) w l
 order_same within None l h = h
 order_same within (Some x) l h = h
 
@@ -306,11 +306,11 @@ module _ {K V : Type 0} (kind : Kind) (within across : K → K → Ordering) (fi
       abbrev OrderedAfter : List (Row K) → List (Row K) → Type 0
       OrderedAfter a b = InOrderAfter within (last_of None a) b
 
-      order_s : plain_law.GoesOn (by_key within) (plain_machine.last_of None (take (plain_law.streamed_read s₂) (plain_law.rows_in sl))) (streamed_of kind l r')
-      order_s = subst (λ z. plain_law.GoesOn (by_key within) z (streamed_of kind l r')) (last_is None (take (plain_law.streamed_read s₂) (plain_law.rows_in sl))) (order_same within (last_of None (take (plain_law.streamed_read s₂) (plain_law.rows_in sl))) (streamed_of kind l r') (subst (λ z. OrderedAfter z (streamed_of kind l r')) rows_s (either OrderedAfter (is_right kind) rr lr r' l m.right_in_order m.left_in_order)))
+      order_s : plain_law.InOrderAfter (by_key within) (plain_machine.last_of None (take (plain_law.streamed_read s₂) (plain_law.rows_in sl))) (streamed_of kind l r')
+      order_s = subst (λ z. plain_law.InOrderAfter (by_key within) z (streamed_of kind l r')) (last_is None (take (plain_law.streamed_read s₂) (plain_law.rows_in sl))) (order_same within (last_of None (take (plain_law.streamed_read s₂) (plain_law.rows_in sl))) (streamed_of kind l r') (subst (λ z. OrderedAfter z (streamed_of kind l r')) rows_s (either OrderedAfter (is_right kind) rr lr r' l m.right_in_order m.left_in_order)))
 
-      order_b : plain_law.GoesOn (by_key within) (plain_machine.last_of None (take (plain_law.buffered_read s₂) (plain_law.rows_in bl))) (buffered_of kind l r')
-      order_b = subst (λ z. plain_law.GoesOn (by_key within) z (buffered_of kind l r')) (last_is None (take (plain_law.buffered_read s₂) (plain_law.rows_in bl))) (order_same within (last_of None (take (plain_law.buffered_read s₂) (plain_law.rows_in bl))) (buffered_of kind l r') (subst (λ z. OrderedAfter z (buffered_of kind l r')) rows_b (either OrderedAfter (is_right kind) lr rr l r' m.left_in_order m.right_in_order)))
+      order_b : plain_law.InOrderAfter (by_key within) (plain_machine.last_of None (take (plain_law.buffered_read s₂) (plain_law.rows_in bl))) (buffered_of kind l r')
+      order_b = subst (λ z. plain_law.InOrderAfter (by_key within) z (buffered_of kind l r')) (last_is None (take (plain_law.buffered_read s₂) (plain_law.rows_in bl))) (order_same within (last_of None (take (plain_law.buffered_read s₂) (plain_law.rows_in bl))) (buffered_of kind l r') (subst (λ z. OrderedAfter z (buffered_of kind l r')) rows_b (either OrderedAfter (is_right kind) lr rr l r' m.left_in_order m.right_in_order)))
 
       longer_s : streamed_of kind (lr ++ l) (rr ++ r') ≡ take (plain_law.streamed_read s₂) (plain_law.rows_in sl) ++ streamed_of kind l r'
       longer_s = side_append (is_right kind) rr r' lr l ∙ ap (λ (z : List (Row K)). z ++ streamed_of kind l r') rows_s

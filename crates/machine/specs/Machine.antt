@@ -4,9 +4,6 @@ use Rattle.std.specs.declared.cmp.Ordering.TheVariants.{Less, Equal, Greater}
 use Rattle.std.specs.declared.cmp.Ordering.{Ordering}
 use Rattle.rows.specs.Order.{is_after}
 use Rattle.rows.specs.declared.kind.Kind.{Kind}
-use Rattle.rows.specs.declared.kind.Kind.TheVariants.{Inner, Left, Right, Full}
-use Rattle.rows.specs.declared.kind.Side.{Side}
-use Rattle.rows.specs.declared.kind.Side.TheVariants.{Left as on_left, Right as on_right}
 use Rattle.rows.specs.declared.reading.Reading.{Reading}
 use Rattle.rows.specs.declared.record.Record.{Record}
 use Rattle.rows.specs.declared.row.Row.{Row}
@@ -15,7 +12,7 @@ use Rattle.pipeline.specs.declared.entry.Entry.{Entry}
 use Rattle.pipeline.specs.declared.batch.BufferedBatch.{BufferedBatch}
 use Rattle.pipeline.specs.declared.states.FilterState.{FilterState}
 use Rattle.pipeline.specs.declared.states.FilterState.TheVariants.{Unvisited}
-use Rattle.rows.specs.Sides.{is_outer, is_full}
+use Rattle.rows.specs.Sides.{streamed_side, buffered_side, is_outer, is_full}
 use Rattle.pipeline.specs.Entries.{lone}
 use Rattle.pipeline.specs.Orient.{streamed_alone}
 use Rattle.pipeline.specs.States.{marking}
@@ -100,18 +97,6 @@ most_batches = 64
 -- the count of records handed over has 64 bits, and stays at the largest of them
 abbrev pub most_handed : ℕ
 most_handed = 18446744073709551615
-
-abbrev pub streamed_side : Kind → Side
-streamed_side Inner = on_left
-streamed_side Left = on_left
-streamed_side Right = on_right
-streamed_side Full = on_left
-
-abbrev pub buffered_side : Kind → Side
-buffered_side Inner = on_right
-buffered_side Left = on_right
-buffered_side Right = on_left
-buffered_side Full = on_right
 
 -- the row at an index
 abbrev pub row_at : {A : Type 0} → ℕ → List A → Option A
