@@ -797,7 +797,7 @@ module _ {X F V : Type 0} (c : Setting X V) (laws : Laws c.within c.across) (sl 
     kept_stop f g st bf p (counts t nr nu h) v a b k u z = (
       record { ghosts = g; core = k; budget = record { under = omega arith; told = omega (arith, u.told) }; now = z },
       omega (arith, u.under),
-      λ e. absurd (let z : ◌≡◌ {A = ℕ} 0 1 = cc in omega arith),
+      λ e. cc,
     )
 
     -- ---- streamed load
@@ -925,7 +925,7 @@ module _ {X F V : Type 0} (c : Setting X V) (laws : Laws c.within c.across) (sl 
     kept_on false g st bf p (counts t nr nu hd) v k u d h = (
       record { ghosts = g; core = k; budget = record { under = omega arith; told = omega (arith, u.told) }; now = (d, h) },
       omega (arith, u.under),
-      λ q. absurd (let z : ◌≡◌ {A = ℕ} 0 1 = cc in omega arith),
+      λ q. cc,
     )
 
     kept_end : (f : Bool) (g : Ghost X) (l : List (List X)) (e : Closing F) (place : ℕ) (last : Option X) (bl' : List (List X)) (be : Closing F) (sizes : List ℕ) (first : ℕ) (m : Bool) (lastb : Option X) (p : Pipe) (n : Counts) (v : V)
@@ -1276,7 +1276,7 @@ module _ {X F V : Type 0} (c : Setting X V) (laws : Laws c.within c.across) (sl 
         kept_paired fair i.ghosts l e x rows place en last bl' be sizes first y run beyond b_en m lastb j (pipe base marks noted unfrozen entries []) n v i.core i.budget i.now.0
     kept_step fair (pairing (z ∷ todo) j) (streamed l e (x ∷ rows) place en last) (buffered bl' be sizes first (y ∷ run) beyond b_en m lastb) base marks noted unfrozen entries n v i =
         kept_pair i.ghosts l e x rows place en last bl' be sizes first y run beyond b_en m lastb z todo j (pipe base marks noted unfrozen entries []) n v i.core i.budget i.now.0 i.now.1
-    kept_step fair (stopped f) st bf base marks noted unfrozen entries n v i = kept_answer (failed f) st bf (pipe base marks noted unfrozen entries []) n v (stopped f) refl (λ q. absurd (let z : ◌≡◌ {A = ℕ} 0 1 = cc in omega arith)) i
+    kept_step fair (stopped f) st bf base marks noted unfrozen entries n v i = kept_answer (failed f) st bf (pipe base marks noted unfrozen entries []) n v (stopped f) refl (λ q. cc) i
 
     -- what is due does not matter to the phase
     now_due : (g : Ghost X) (st : Streamed X F) (bf : Buffered X F) (base : ℕ) (marks : List Mark) (noted : List ℕ) (unfrozen entries : List Entry) (due due' : List Record) (ph : Phase X F) (so bo : Bool) → length due' ≤ length due
@@ -1301,7 +1301,7 @@ module _ {X F V : Type 0} (c : Setting X V) (laws : Laws c.within c.across) (sl 
           budget = i.budget;
           now = now_due i.ghosts st bf base marks noted unfrozen entries (r ∷ due) due ph (so_of st ph) (bo_of bf ph) (omega arith) i.now;
         })
-        (λ e. kept_answer waiting st bf (pipe base marks noted unfrozen entries (r ∷ due)) (counts t nr nu h) v ph refl (λ q. absurd (let z : ◌≡◌ {A = ℕ} 0 1 = cc in omega arith)) i)
+        (λ e. kept_answer waiting st bf (pipe base marks noted unfrozen entries (r ∷ due)) (counts t nr nu h) v ph refl (λ q. cc) i)
 
   -- ---- calls
 
@@ -1366,8 +1366,8 @@ module _ {X F V : Type 0} (c : Setting X V) (laws : Laws c.within c.across) (sl 
 
   done_stays : {s s' : State X F V} {l : List Record} {a : Answer F} → Turned c s l a s' → IsDone s → IsDone s'
   done_stays (answers {s = s} {s' = s'} e) d = subst IsDone (ap (λ (o : Outcome X F V). next_of o s) (sym (done_micro s d) ∙ e)) d
-  done_stays (steps {s = s} e t) d = let q = done_micro s d in absurd (let z : ◌≡◌ {A = ℕ} 0 1 = cc in omega arith)
-  done_stays (hands {s = s} e t) d = let q = done_micro s d in absurd (let z : ◌≡◌ {A = ℕ} 0 1 = cc in omega arith)
+  done_stays (steps {s = s} e t) d = let q = done_micro s d in cc
+  done_stays (hands {s = s} e t) d = let q = done_micro s d in cc
 
   mores_push : (told : List (Answer F)) (a : Answer F) → mores (told ++ a ∷ []) ≡ mores told + one_more a
   mores_push [] a = omega arith

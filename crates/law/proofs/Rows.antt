@@ -14,7 +14,7 @@ use Rattle.merge.proofs.Flags.{meets_push, meets_none}
 use Rattle.law.specs.Pipe.{Entry, judged, Mark, unseen, failing, met, marked, mark_at, corrected, plain, settled, alones, places, failures}
 use Rattle.law.specs.Machine.{disorder, last_of}
 use Rattle.law.specs.Law.{InOrderAfter}
-use Rattle.law.proofs.Totals.{total}
+use Rattle.law.proofs.Totals.{shift, total}
 use Rattle.law.proofs.Pipes.{Own, unseens}
 
 -- ---- order
@@ -83,7 +83,7 @@ module _ {X : Type 0} (within : X → X → Ordering) where
   in_order (Some w) (x ∷ l) k e = go (is_after (within w x)) refl e (in_order (Some x) l (suc k))
     where
       go : (t : Bool) → is_after (within w x) ≡ t → cond t (Some k) (disorder within (Some x) l (suc k)) ≡ None → (disorder within (Some x) l (suc k) ≡ None → InOrderAfter within (Some x) l) → InOrderAfter within (Some w) (x ∷ l)
-      go true a q r = absurd (let z : ◌≡◌ {A = ℕ} 0 1 = cc in omega arith)
+      go true a q r = cc
       go false a q r = (not_after (within w x) a, r q)
 
   -- what may follow makes a sorted log with what was read
@@ -250,6 +250,3 @@ mark_middle (suc n) v (k ∷ a) m b e = ap (λ (l : List Mark). k ∷ l) (mark_m
 pub pairs_append : {X : Type 0} (passes : X → X → Bool) (i : ℕ) (x : X) (j : ℕ) (a b : List X) → pairs_of passes i x j (a ++ b) ≡ pairs_of passes i x j a ++ pairs_of passes i x (j + length a) b
 pairs_append passes i x j [] b = ap (λ (k : ℕ). pairs_of passes i x k b) (omega arith)
 pairs_append passes i x j (y ∷ a) b = ap (λ (l : List Record). when (passes x y) (Pair i j ∷ []) ++ l) (pairs_append passes i x (suc j) a b ∙ ap (λ (k : ℕ). pairs_of passes i x (suc j) a ++ pairs_of passes i x k b) (shift j (length a))) ∙ sym (append_assoc (when (passes x y) (Pair i j ∷ [])) _ _)
-  where
-    shift : (j n : ℕ) → suc j + n ≡ j + suc n
-    shift j n = omega arith

@@ -125,11 +125,11 @@ module _ (kind : Kind) (asks : Reading → Reading → Bool) where
     kept_plain : (row : Option StreamedRow) (v : Option Bool) (r : Record) (said : Bool) (rest : List Record) (l : List plain_entry) → FitsRow row v r → JudgedRow row v said
         → map (oriented kind) rest ≡ plain l → map (oriented kind) (kept_record v r ++ rest) ≡ plain (told_of row r said ∷ l)
     kept_plain None None r said rest l h j e = ap (λ (q : List Record). oriented kind r ∷ q) e
-    kept_plain None (Some v) r said rest l h j e = absurd (let z : ◌≡◌ {A = ℕ} 0 1 = cc in omega arith)
-    kept_plain (Some at) None r said rest l h j e = absurd (let z : ◌≡◌ {A = ℕ} 0 1 = cc in omega arith)
+    kept_plain None (Some v) r said rest l h j e = cc
+    kept_plain (Some at) None r said rest l h j e = cc
     kept_plain (Some at) (Some true) r true rest l h j e = rw (pair_oriented at r h.0, e)
-    kept_plain (Some at) (Some false) r true rest l h j e = absurd (let z : ◌≡◌ {A = ℕ} 0 1 = cc in omega arith)
-    kept_plain (Some at) (Some true) r false rest l h j e = absurd (let z : ◌≡◌ {A = ℕ} 0 1 = cc in omega arith)
+    kept_plain (Some at) (Some false) r true rest l h j e = cc
+    kept_plain (Some at) (Some true) r false rest l h j e = cc
     kept_plain (Some at) (Some false) r false rest l h j e = e
 
     -- what is handed over as it freezes

@@ -21,11 +21,11 @@ use Rattle.machine.specs.Weight.{Sane, due_of, rows_within, any_of, anew, run_ro
 
 at_most_length : {A : Type 0} (n : ℕ) (l : List A) → row_at n l ≡ None → length l ≤ n
 at_most_length n [] e = omega arith
-at_most_length zero (x ∷ l) e = absurd (let z : ◌≡◌ {A = ℕ} 0 1 = cc in omega arith)
+at_most_length zero (x ∷ l) e = cc
 at_most_length (suc n) (x ∷ l) e = omega (arith, at_most_length n l e)
 
 below_length : {A : Type 0} (n : ℕ) (l : List A) (x : A) → row_at n l ≡ Some x → n < length l
-below_length n [] y e = absurd (let z : ◌≡◌ {A = ℕ} 0 1 = cc in omega arith)
+below_length n [] y e = cc
 below_length zero (x ∷ l) y e = omega arith
 below_length (suc n) (x ∷ l) y e = omega (arith, below_length n l y e)
 
@@ -218,7 +218,7 @@ module _ {K V : Type 0} (c : Setting K) (fits : V → Record → Bool) (after : 
     where
       stepped : (o : Outcome K) → step c ph st bf q n ≡ o → moved c fits after o v ≡ goes s' v' → (step c ph st bf q n ≡ going s') × (v' ≡ v)
       stepped (going t) k e = (cc, cc)
-      stepped (answered a t) k e = absurd (let z : ◌≡◌ {A = ℕ} 0 1 = cc in omega arith)
+      stepped (answered a t) k e = cc
 
       fitted : (t : Bool) (x : Record) (l : List Record) → cond t (hands_over x (core st bf (handed c fits after l q) (counted_record n) ph) (after v x)) (says (Ok Waiting) (core st bf q n ph) v) ≡ goes s' v' → ⊥
       fitted true x l e = let z : ◌≡◌ {A = ℕ} 0 1 = cc in omega arith
@@ -263,7 +263,7 @@ module _ {K V : Type 0} (c : Setting K) (fits : V → Record → Bool) (after : 
           let yx : y ≡ x = cc in
           let rest : due_of s' ≡ l = ap due_of same in
           record { first_due = cc; fits_in = cc; sink_after = cc; same_weight = ap (weight c) same ∙ due_weighs_nothing l st bf q ph }
-      fitted false y l d f e = absurd (let z : ◌≡◌ {A = ℕ} 0 1 = cc in omega arith)
+      fitted false y l d f e = cc
 
       due : (l : List Record) → q.due ≡ l → micro_due c fits after l st bf q n ph v ≡ hands_over x s' v' → HandsOne (core st bf q n ph) v x s' v'
       due [] d e = absurd (stepped (step c ph st bf q n) e)

@@ -201,5 +201,5 @@ module _ {K V : Type 0} (c : Setting K) (fits : V → Record → Bool) (after : 
     where
       go : (en : Bool) → en ≡ false → Whole c batch_of (side st.batches st.closing st.first st.rows st.at en st.last) bf q (fetching first)
           → Follow (state_at c (side st.batches st.closing st.first st.rows st.at en st.last) bf q n (fetching first) v) v (fetch_from c first st.batches st.closing (side st.batches st.closing st.first st.rows st.at en st.last) bf q n)
-      go true h w = absurd (let z : ◌≡◌ {A = ℕ} 0 1 = cc in omega arith)
+      go true h w = cc
       go false h w = fetch_open first st.batches st.closing st.first st.rows st.at st.last bf q n v z w

@@ -53,14 +53,14 @@ not_full size unfrozen e h = lt-leb _ _ (omega (arith, length-append unfrozen (e
 
 -- the row at an index
 pub row_some : {A : Type 0} (n : ℕ) (l : List A) (x : A) → row_at n l ≡ Some x → (drop n l ≡ x ∷ drop (suc n) l) × (n < length l)
-row_some n [] x e = absurd (let z : ◌≡◌ {A = ℕ} 0 1 = cc in omega arith)
+row_some n [] x e = cc
 row_some zero (y ∷ l) x e = (let z : y ≡ x = cc in ap (λ (w : _). w ∷ l) z, omega arith)
 row_some (suc n) (y ∷ l) x e = let k = row_some n l x e in (k.0, omega (arith, k.1))
 
 pub row_none : {A : Type 0} (n : ℕ) (l : List A) → row_at n l ≡ None → drop n l ≡ []
 row_none zero [] e = refl
 row_none (suc n) [] e = refl
-row_none zero (y ∷ l) e = absurd (let z : ◌≡◌ {A = ℕ} 0 1 = cc in omega arith)
+row_none zero (y ∷ l) e = cc
 row_none (suc n) (y ∷ l) e = row_none n l e
 
 module _ {X F V : Type 0} (p : plain_machine.Setting X V) where
