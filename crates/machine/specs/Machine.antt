@@ -2,6 +2,7 @@
 use Rattle.std.specs.Prelude.{◌≡◌, ℕ, zero, suc, ◌+◌, ◌-◌, min, Bool, true, false, cond, not, ◌&&◌, List, [], ◌∷◌, ◌++◌, length, take, drop, replicate, Some, None, Ok, Err, Option, Result, nat_le, nat_lt}
 use Rattle.std.specs.declared.cmp.Ordering.TheVariants.{Less, Equal, Greater}
 use Rattle.std.specs.declared.cmp.Ordering.{Ordering}
+use Rattle.std.specs.List.{slice_get}
 use Rattle.rows.specs.Order.{is_after}
 use Rattle.rows.specs.declared.kind.Kind.{Kind}
 use Rattle.rows.specs.declared.reading.Reading.{Reading}
@@ -100,9 +101,7 @@ most_handed = 18446744073709551615
 
 -- the row at an index
 abbrev pub row_at : {A : Type 0} → ℕ → List A → Option A
-row_at n [] = None
-row_at zero (x ∷ l) = Some x
-row_at (suc n) (x ∷ l) = row_at n l
+row_at n l = slice_get l n
 
 -- the place of the first row, of rows from place k on, that is before its predecessor; `last` is the row before the first
 abbrev pub disorder : {K : Type 0} → (K → K → Ordering) → Option (Row K) → List (Row K) → ℕ → Option ℕ
