@@ -1,5 +1,5 @@
 -- The invariant of the machine, and the law.
-use Rattle.std.proofs.Common.{◌≡◌, ℕ, zero, suc, ◌+◌, ◌-◌, ◌<◌, ◌≤◌, min, Bool, true, false, cond, not, ◌&&◌, leb, ◌⊎◌, List, [], ◌∷◌, ◌++◌, length, get_or, take, replicate, Some, None, Option, Ok, Err, Ordering, Less, Equal, Greater, sym, refl, ap, ◌∙◌, subst, inl, inr, true≢false, append_assoc, append-nil, add-one, arith, length-append}
+use Rattle.std.proofs.Common.{◌≡◌, ℕ, zero, suc, ◌+◌, ◌-◌, ◌<◌, ◌≤◌, min, Bool, true, false, cond, not, ◌&&◌, leb, ◌⊎◌, List, [], ◌∷◌, ◌++◌, length, get_or, take, replicate, Some, None, Option, Ok, Err, Ordering, Less, Equal, Greater, sym, refl, ap, ◌∙◌, subst, inl, inr, ⊎_elim, true≢false, append_assoc, append-nil, add-one, arith, length-append}
 use mathlib.Core.List.{nil≢cons}
 use mathlib.Core.Bool.{false≢true}
 use Rattle.std.specs.List.{ContainsAt as Has, AllByRecursion}
@@ -14,6 +14,7 @@ use Rattle.merge.proofs.Distincts.{all_front, distinct_front, distinct_perm, tab
 use Rattle.merge.proofs.Shuffles.{shuffled_from_perm, all_have}
 use Rattle.merge.proofs.Counts.{left, nothing_to_come}
 use Rattle.std.proofs.lemmas.List.{take_at}
+use Rattle.std.proofs.lemmas.List.Elements.{Contains-push_cases, Contains-from_at, at_from_Contains}
 use mathlib.Core.List.Permᴰ
 use mathlib.Core.List.{Permᴰ}
 use Rattle.merge.proofs.Flags.{all_back}
@@ -1375,20 +1376,7 @@ module _ {X F V : Type 0} (c : Setting X V) (laws : Laws c.within c.across) (sl 
 
   -- the last of a list, or one before
   has_push : {A : Type 0} (l : List A) (a b : A) → Has (l ++ a ∷ []) b → Has l b ⊎ (a ≡ b)
-  has_push [] a b h = inr (go h.0 h.1 (h.2 a))
-    where
-      go : (k : ℕ) → k < 1 → get_or (a ∷ []) k a ≡ b → a ≡ b
-      go zero l e = e
-      go (suc k) l e = absurd (omega arith)
-  has_push (x ∷ l) a b h = go h.0 h.1 h.2 (has_push l a b)
-    where
-      go : (k : ℕ) → k < length (x ∷ (l ++ a ∷ [])) → ((d : _) → get_or (x ∷ (l ++ a ∷ [])) k d ≡ b) → (Has (l ++ a ∷ []) b → Has l b ⊎ (a ≡ b)) → Has (x ∷ l) b ⊎ (a ≡ b)
-      go zero q e r = inl (0, omega arith, e)
-      go (suc k) q e r = up (r (k, omega arith, e))
-        where
-          up : Has l b ⊎ (a ≡ b) → Has (x ∷ l) b ⊎ (a ≡ b)
-          up (inl z) = inl (suc z.0, omega (arith, z.1), z.2)
-          up (inr z) = inr z
+  has_push l a b h = ⊎_elim (λ k. inl (at_from_Contains l b k)) inr (Contains-push_cases l a b (Contains-from_at (l ++ a ∷ []) b h))
 
   pub runs_inv : Fair c → {out : List Record} {told : List (Answer F)} {s : State X F V} → Runs c sl sc bl bc v₀ out told s → Inv out (mores told) (turns_of s + 1) s × (Has told finished → IsDone s)
   runs_inv fair none = (opened_inv, λ h. absurd (omega (arith, h.1)))

@@ -1,7 +1,7 @@
 -- The law of all runs of a join, from the opened state on.
 use Rattle.std.specs.Prelude.{◌≡◌, ℕ, ◌+◌, ◌-◌, ◌≤◌, min, Bool, true, false, ◌&&◌, ◌⊎◌, List, [], ◌∷◌, ◌++◌, length, take, Some, None, Option, Ok, Err}
 use Rattle.std.specs.declared.cmp.Ordering.{Ordering}
-use Rattle.std.specs.List.{ContainsAt as Has, AllByRecursion}
+use Rattle.std.specs.List.{ContainsAt as Has, AllByRecursion, flat_map}
 use Rattle.std.specs.List.Sorted.{IsPermutation}
 use Rattle.rows.specs.Order.{Laws, is_same}
 use Rattle.merge.specs.Table.{table, Distinct}
@@ -14,8 +14,7 @@ use Rattle.law.specs.Machine.{Setting, on_streamed, on_buffered, Closing, disord
 
 -- all rows of a list of batches
 abbrev pub rows_in : {X : Type 0} → List (List X) → List X
-rows_in [] = []
-rows_in (b ∷ l) = b ++ rows_in l
+rows_in l = flat_map (λ b. b) l
 
 -- no batch is left, and the source closes with the end
 abbrev pub is_over : {X F : Type 0} → List (List X) → Closing F → Bool

@@ -47,10 +47,6 @@ use Rattle.machine.proofs.Sound.{Close, Kept, stopped_by, fails_at, call_sound, 
 
 -- ---- small translations
 
-rows_same : {A : Type 0} (l : List (List A)) → rows_in l ≡ plain_law.rows_in l
-rows_same [] = refl
-rows_same {A} (b ∷ l) = ap (λ (r : List A). b ++ r) (rows_same l)
-
 over_same : {A : Type 0} (l : List (List A)) (e : Closing) → is_over l e ≡ plain_law.is_over l e
 over_same [] (Ok end) = refl
 over_same [] (Err f) = refl
@@ -82,9 +78,9 @@ either : {A B : Type 0} (P : A → B → Type 0) (t : Bool) (a a' : A) (b b' : B
 either P true a a' b b' h k = h
 either P false a a' b b' h k = k
 
-rows_of_side : {A : Type 0} (t : Bool) (l r : List (List A)) → cond t (rows_in l) (rows_in r) ≡ plain_law.rows_in (cond t l r)
-rows_of_side true l r = rows_same l
-rows_of_side false l r = rows_same r
+rows_of_side : {A : Type 0} (t : Bool) (l r : List (List A)) → cond t (rows_in l) (rows_in r) ≡ rows_in (cond t l r)
+rows_of_side true l r = refl
+rows_of_side false l r = refl
 
 -- the fault that stopped a join, by side
 streamed_fails : {K : Type 0} (kind : Kind) (to : ℕ) (ph : Phase K) → plain_law.streamed_failed (phase_of kind to ph) ≡ fails_at (streamed_side kind) ph
@@ -249,24 +245,20 @@ module _ {K V : Type 0} (kind : Kind) (within across : K → K → Ordering) (fi
     abbrev rr : List (Row K)
     rr = take (right_of kind (streamed_read st) (buffered_read bf)) (rows_in rights.batches)
 
-    side_rows : (t : Bool) (a b : ℕ) (ls rs : List (List (Row K))) → cond t (take (cond t a b) (rows_in rs)) (take (cond t b a) (rows_in ls)) ≡ take a (plain_law.rows_in (cond t rs ls))
-    side_rows true a b ls rs = ap (take a) (rows_same rs)
-    side_rows false a b ls rs = ap (take a) (rows_same ls)
+    side_rows : (t : Bool) (a b : ℕ) (ls rs : List (List (Row K))) → cond t (take (cond t a b) (rows_in rs)) (take (cond t b a) (rows_in ls)) ≡ take a (rows_in (cond t rs ls))
+    side_rows true a b ls rs = refl
+    side_rows false a b ls rs = refl
 
-    other_rows : (t : Bool) (a b : ℕ) (ls rs : List (List (Row K))) → cond t (take (cond t b a) (rows_in ls)) (take (cond t a b) (rows_in rs)) ≡ take b (plain_law.rows_in (cond t ls rs))
-    other_rows true a b ls rs = ap (take b) (rows_same ls)
-    other_rows false a b ls rs = ap (take b) (rows_same rs)
+    rows_s : streamed_of kind lr rr ≡ take (plain_law.streamed_read s₂) (rows_in sl)
+    rows_s = side_rows (is_right kind) (streamed_read st) (buffered_read bf) lefts.batches rights.batches ∙ ap (λ (k : ℕ). take k (rows_in sl)) (sym read_s)
 
-    rows_s : streamed_of kind lr rr ≡ take (plain_law.streamed_read s₂) (plain_law.rows_in sl)
-    rows_s = side_rows (is_right kind) (streamed_read st) (buffered_read bf) lefts.batches rights.batches ∙ ap (λ (k : ℕ). take k (plain_law.rows_in sl)) (sym read_s)
+    rows_b : buffered_of kind lr rr ≡ take (plain_law.buffered_read s₂) (rows_in bl)
+    rows_b = side_rows (is_right kind) (buffered_read bf) (streamed_read st) rights.batches lefts.batches ∙ ap (λ (k : ℕ). take k (rows_in bl)) (sym read_b)
 
-    rows_b : buffered_of kind lr rr ≡ take (plain_law.buffered_read s₂) (plain_law.rows_in bl)
-    rows_b = other_rows (is_right kind) (streamed_read st) (buffered_read bf) lefts.batches rights.batches ∙ ap (λ (k : ℕ). take k (plain_law.rows_in bl)) (sym read_b)
-
-    all_s : streamed_of kind (rows_in lefts.batches) (rows_in rights.batches) ≡ plain_law.rows_in sl
+    all_s : streamed_of kind (rows_in lefts.batches) (rows_in rights.batches) ≡ rows_in sl
     all_s = rows_of_side (is_right kind) rights.batches lefts.batches
 
-    all_b : buffered_of kind (rows_in lefts.batches) (rows_in rights.batches) ≡ plain_law.rows_in bl
+    all_b : buffered_of kind (rows_in lefts.batches) (rows_in rights.batches) ≡ rows_in bl
     all_b = rows_of_side (is_right kind) lefts.batches rights.batches
 
     side_append : (t : Bool) (a a' b b' : List (Row K)) → cond t (a ++ a') (b ++ b') ≡ cond t a b ++ cond t a' b'
@@ -306,24 +298,24 @@ module _ {K V : Type 0} (kind : Kind) (within across : K → K → Ordering) (fi
       abbrev OrderedAfter : List (Row K) → List (Row K) → Type 0
       OrderedAfter a b = InOrderAfter within (last_of None a) b
 
-      order_s : plain_law.InOrderAfter (by_key within) (plain_machine.last_of None (take (plain_law.streamed_read s₂) (plain_law.rows_in sl))) (streamed_of kind l r')
-      order_s = subst (λ z. plain_law.InOrderAfter (by_key within) z (streamed_of kind l r')) (last_is None (take (plain_law.streamed_read s₂) (plain_law.rows_in sl))) (order_same within (last_of None (take (plain_law.streamed_read s₂) (plain_law.rows_in sl))) (streamed_of kind l r') (subst (λ z. OrderedAfter z (streamed_of kind l r')) rows_s (either OrderedAfter (is_right kind) rr lr r' l m.right_in_order m.left_in_order)))
+      order_s : plain_law.InOrderAfter (by_key within) (plain_machine.last_of None (take (plain_law.streamed_read s₂) (rows_in sl))) (streamed_of kind l r')
+      order_s = subst (λ z. plain_law.InOrderAfter (by_key within) z (streamed_of kind l r')) (last_is None (take (plain_law.streamed_read s₂) (rows_in sl))) (order_same within (last_of None (take (plain_law.streamed_read s₂) (rows_in sl))) (streamed_of kind l r') (subst (λ z. OrderedAfter z (streamed_of kind l r')) rows_s (either OrderedAfter (is_right kind) rr lr r' l m.right_in_order m.left_in_order)))
 
-      order_b : plain_law.InOrderAfter (by_key within) (plain_machine.last_of None (take (plain_law.buffered_read s₂) (plain_law.rows_in bl))) (buffered_of kind l r')
-      order_b = subst (λ z. plain_law.InOrderAfter (by_key within) z (buffered_of kind l r')) (last_is None (take (plain_law.buffered_read s₂) (plain_law.rows_in bl))) (order_same within (last_of None (take (plain_law.buffered_read s₂) (plain_law.rows_in bl))) (buffered_of kind l r') (subst (λ z. OrderedAfter z (buffered_of kind l r')) rows_b (either OrderedAfter (is_right kind) lr rr l r' m.left_in_order m.right_in_order)))
+      order_b : plain_law.InOrderAfter (by_key within) (plain_machine.last_of None (take (plain_law.buffered_read s₂) (rows_in bl))) (buffered_of kind l r')
+      order_b = subst (λ z. plain_law.InOrderAfter (by_key within) z (buffered_of kind l r')) (last_is None (take (plain_law.buffered_read s₂) (rows_in bl))) (order_same within (last_of None (take (plain_law.buffered_read s₂) (rows_in bl))) (buffered_of kind l r') (subst (λ z. OrderedAfter z (buffered_of kind l r')) rows_b (either OrderedAfter (is_right kind) lr rr l r' m.left_in_order m.right_in_order)))
 
-      longer_s : streamed_of kind (lr ++ l) (rr ++ r') ≡ take (plain_law.streamed_read s₂) (plain_law.rows_in sl) ++ streamed_of kind l r'
+      longer_s : streamed_of kind (lr ++ l) (rr ++ r') ≡ take (plain_law.streamed_read s₂) (rows_in sl) ++ streamed_of kind l r'
       longer_s = side_append (is_right kind) rr r' lr l ∙ ap (λ (z : List (Row K)). z ++ streamed_of kind l r') rows_s
 
-      longer_b : buffered_of kind (lr ++ l) (rr ++ r') ≡ take (plain_law.buffered_read s₂) (plain_law.rows_in bl) ++ buffered_of kind l r'
+      longer_b : buffered_of kind (lr ++ l) (rr ++ r') ≡ take (plain_law.buffered_read s₂) (rows_in bl) ++ buffered_of kind l r'
       longer_b = side_append (is_right kind) lr l rr r' ∙ ap (λ (z : List (Row K)). z ++ buffered_of kind l r') rows_b
 
       abbrev InLonger : Record → Type 0
       InLonger = InTable kind across filter (lr ++ l) (rr ++ r')
 
-      in_table : (x : Record) → Has (plain_law.joined plain (take (plain_law.streamed_read s₂) (plain_law.rows_in sl) ++ streamed_of kind l r') (take (plain_law.buffered_read s₂) (plain_law.rows_in bl) ++ buffered_of kind l r')) x → InLonger (oriented kind x)
+      in_table : (x : Record) → Has (plain_law.joined plain (take (plain_law.streamed_read s₂) (rows_in sl) ++ streamed_of kind l r') (take (plain_law.buffered_read s₂) (rows_in bl) ++ buffered_of kind l r')) x → InLonger (oriented kind x)
       in_table x h =
-          let h₁ = subst (λ z. Has (plain_law.joined plain z (take (plain_law.buffered_read s₂) (plain_law.rows_in bl) ++ buffered_of kind l r')) x) (sym longer_s) h in
+          let h₁ = subst (λ z. Has (plain_law.joined plain z (take (plain_law.buffered_read s₂) (rows_in bl) ++ buffered_of kind l r')) x) (sym longer_s) h in
           let h₂ = subst (λ z. Has (plain_law.joined plain (streamed_of kind (lr ++ l) (rr ++ r')) z) x) (sym longer_b) h₁ in
           named across filter kind (lr ++ l) (rr ++ r') x (all-has _ (table (passes kind across filter) (is_outer kind) (is_full kind) (streamed_of kind (lr ++ l) (rr ++ r')) (buffered_of kind (lr ++ l) (rr ++ r'))) x (table_only (passes kind across filter) (is_outer kind) (is_full kind) (streamed_of kind (lr ++ l) (rr ++ r')) (buffered_of kind (lr ++ l) (rr ++ r'))) h₂)
 
@@ -336,8 +328,8 @@ module _ {K V : Type 0} (kind : Kind) (within across : K → K → Ordering) (fi
     whole_table : Has told (Ok Finished) → IsPermutation out (joined kind across filter (rows_in lefts.batches) (rows_in rights.batches))
     whole_table h =
         let p = perm_map (oriented kind) (whole_perm plain row_laws sl sc bl bc v₀ fair (map (oriented kind) out) (map (answer_of kind) told) s₂ (follows_runs r).0 (finished h)) in
-        let p₁ = subst (λ z. Permᴰ z (map (oriented kind) (plain_law.joined plain (plain_law.rows_in sl) (plain_law.rows_in bl)))) (twice kind out) p in
-        let p₂ = subst (λ z. Permᴰ out (map (oriented kind) (plain_law.joined plain z (plain_law.rows_in bl)))) (sym all_s) p₁ in
+        let p₁ = subst (λ z. Permᴰ z (map (oriented kind) (plain_law.joined plain (rows_in sl) (rows_in bl)))) (twice kind out) p in
+        let p₂ = subst (λ z. Permᴰ out (map (oriented kind) (plain_law.joined plain z (rows_in bl)))) (sym all_s) p₁ in
         shuffled_from_perm (subst (λ z. Permᴰ out (map (oriented kind) (plain_law.joined plain (streamed_of kind (rows_in lefts.batches) (rows_in rights.batches)) z))) (sym all_b) p₂)
 
     calls : (l : List Record) (a : Told) (s' : Core K) (v' : V) → Turned c fits after s v l a s' v' → (reported kind s').turns ≤ (reported kind s).turns + 1

@@ -1,7 +1,7 @@
 -- The law of runs: what whoever opens a join and works it by turn and report alone finds after every call.
 use Rattle.std.specs.Prelude.{◌≡◌, ℕ, ◌+◌, ◌≤◌, min, Bool, true, false, not, ◌&&◌, ◌||◌, List, [], ◌∷◌, ◌++◌, length, take, Some, None, Ok, Err, Option}
 use Rattle.std.specs.declared.cmp.Ordering.{Ordering}
-use Rattle.std.specs.List.{ContainsAt as Has, AllByRecursion}
+use Rattle.std.specs.List.{ContainsAt as Has, AllByRecursion, flat_map}
 use Rattle.std.specs.List.Sorted.{IsPermutation}
 use Rattle.rows.specs.declared.kind.Kind.{Kind}
 use Rattle.rows.specs.declared.kind.Side.{Side}
@@ -31,8 +31,7 @@ pub record Log (K : Type 0) : Type 0 where
 
 -- all rows of a list of batches
 abbrev pub rows_in : {A : Type 0} → List (List A) → List A
-rows_in [] = []
-rows_in (b ∷ l) = b ++ rows_in l
+rows_in l = flat_map (λ b. b) l
 
 -- the source holds no batch more and answers the end
 abbrev pub is_over : {A : Type 0} → List (List A) → Closing → Bool
