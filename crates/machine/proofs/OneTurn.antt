@@ -1,5 +1,5 @@
 -- A call of turn has one result.
-use Rattle.std.proofs.Common.{◌≡◌, ℕ, Bool, List, refl, subst, arith}
+use Rattle.std.proofs.Common.{◌≡◌, Bool, List, refl, subst}
 use Rattle.rows.specs.declared.record.Record.{Record}
 use Rattle.machine.specs.Machine.{Setting, Core, Told, Turned, answers, steps, hands}
 

@@ -7,7 +7,6 @@ use Rattle.rows.specs.declared.kind.Side.TheVariants.{Left as on_left, Right as 
 use Rattle.rows.specs.declared.record.Record.{Record}
 use Rattle.rows.specs.declared.row.Row.{Row}
 use Rattle.sources.specs.declared.fault.SourceFault.{SourceFault}
-use Rattle.sources.specs.Meaning.{Closing}
 use Rattle.rows.specs.Sides.{is_right, is_outer, is_full, oriented, left_of, right_of}
 use Rattle.merge.specs.Merging.{by_key}
 use Rattle.law.specs.Pipe.{Pipe, pipe}
