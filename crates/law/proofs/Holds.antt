@@ -1,5 +1,5 @@
 -- The invariant of the machine, and the law.
-use Rattle.std.proofs.Common.{◌≡◌, ℕ, zero, suc, ◌+◌, ◌-◌, ◌<◌, ◌≤◌, min, Bool, true, false, cond, not, ◌&&◌, leb, ◌⊎◌, List, [], ◌∷◌, ◌++◌, length, get_or, take, replicate, Some, None, Option, Ordering, Less, Equal, Greater, sym, refl, ap, ◌∙◌, subst, inl, inr, true≢false, append_assoc, append-nil, add-one, arith, length-append}
+use Rattle.std.proofs.Common.{◌≡◌, ℕ, zero, suc, ◌+◌, ◌-◌, ◌<◌, ◌≤◌, min, Bool, true, false, cond, not, ◌&&◌, leb, ◌⊎◌, List, [], ◌∷◌, ◌++◌, length, take, replicate, Some, None, Option, Ok, Err, Ordering, Less, Equal, Greater, sym, refl, ap, ◌∙◌, subst, inl, inr, ⊎_elim, true≢false, append_assoc, append-nil, add-one, arith, length-append}
 use mathlib.Core.List.{nil≢cons}
 use mathlib.Core.Bool.{false≢true}
 use Rattle.std.specs.List.{ContainsAt as Has, AllByRecursion}
@@ -14,6 +14,7 @@ use Rattle.merge.proofs.Distincts.{all_front, distinct_front, distinct_perm, tab
 use Rattle.merge.proofs.Shuffles.{shuffled_from_perm, all_have}
 use Rattle.merge.proofs.Counts.{left, nothing_to_come}
 use Rattle.std.proofs.lemmas.List.{take_at}
+use Rattle.std.proofs.lemmas.List.Elements.{Contains-push_cases, Contains-from_at, at_from_Contains}
 use mathlib.Core.List.Permᴰ
 use mathlib.Core.List.{Permᴰ}
 use Rattle.merge.proofs.Flags.{all_back}
@@ -26,8 +27,8 @@ use Rattle.merge.proofs.Stages.{Good, FreshAt, good_act, fresh_act, good_blank}
 use Rattle.merge.proofs.Prefixes.{turn_alike, with_more}
 use Rattle.merge.proofs.Steps.{Shuns}
 use Rattle.law.specs.Pipe.{Entry, fixed, judged, Mark, unseen, Pipe, pipe, settled, failures, alones, marking, places, note, part, marked, mark_at, freeze, flush, push}
-use Rattle.law.specs.Machine.{on_streamed, on_buffered, disordered, oversized, overlong, crowded, from_source, Answer, waiting, finished, failed, Outcome, going, gives, answered, most_rows, most_batches, stops, after_fetch, fetch_checked, fetch_taken, fetch, load_checked, load, seed, extend, go_on, close, compare, compared, pass, step, micro, lone_row, opened, Turned, answers, steps, hands, pass_run as run_passed, turn as turn_step, Setting, Closing, ended, faulted, Fault, Phase, fetching, seeding, extending, closing, turning, passing, done, pairing, stopped, Streamed, streamed, Buffered, buffered, Counts, counts, State, state, total_size, base_of, last_of, disorder, held_more, is_full, most_handed}
-use Rattle.law.specs.Law.{Ample, in_block, mores, Runs, none, turned, reported, Lawful, Law, joined, GoesOn, turns_of, one_more, rows_in, is_over, over, streamed_failed, buffered_failed, Led, Fair, passes}
+use Rattle.law.specs.Machine.{on_streamed, on_buffered, disordered, oversized, overlong, crowded, from_source, Answer, waiting, finished, failed, Outcome, going, gives, answered, most_rows, most_batches, stops, after_fetch, fetch_checked, fetch_taken, fetch, load_checked, load, seed, extend, go_on, close, compare, compared, pass, step, micro, lone_row, opened, Turned, answers, steps, hands, pass_run as run_passed, turn as turn_step, Setting, Closing, Fault, Phase, fetching, seeding, extending, closing, turning, passing, done, pairing, stopped, Streamed, streamed, Buffered, buffered, Counts, counts, State, state, total_size, base_of, last_of, disorder, held_more, is_full, most_handed}
+use Rattle.law.specs.Law.{Ample, in_block, mores, Runs, none, turned, reported, Lawful, Law, joined, InOrderAfter, turns_of, one_more, rows_in, is_over, over, streamed_failed, buffered_failed, Led, Fair, passes}
 use Rattle.law.proofs.Totals.{total, total_append, Same, same_from_perm, perm_from_same}
 use Rattle.law.proofs.Pipes.{Own, ModeOf, parts, From, apart_cut, worth_apart, Moded, mode_empty, Ranged, worth, worth_of, marks_of, OnlyDue, Frozen, frozen, flushed, Grown, grown, size_of, noted_of, unfrozen_of, due_of, unseens, unseens_total, unseen_few, length_total, low, Pushed, pushed, Parted, parted, moded_passed, worth_none, noted_worth, noted_mode, failures_total, marking_longer, more_range}
 use Rattle.law.proofs.Rows.{Level, Stop, run_is, group_of, standing, Unmet, unmet_fresh, checked, length_standing, run_worth, standing_append, standing_same, unmet_push, mark_of, mark_push, mark_middle, group_push, settled_group, pairs_append, plain_group, sorted_on, noted_unseen}
@@ -797,7 +798,7 @@ module _ {X F V : Type 0} (c : Setting X V) (laws : Laws c.within c.across) (sl 
     kept_stop f g st bf p (counts t nr nu h) v a b k u z = (
       record { ghosts = g; core = k; budget = record { under = omega arith; told = omega (arith, u.told) }; now = z },
       omega (arith, u.under),
-      λ e. absurd (let z : ◌≡◌ {A = ℕ} 0 1 = cc in omega arith),
+      λ e. cc,
     )
 
     -- ---- streamed load
@@ -830,8 +831,8 @@ module _ {X F V : Type 0} (c : Setting X V) (laws : Laws c.within c.across) (sl 
 
     kept_fetch : (first : Bool) (g : Ghost X) (l : List (List X)) (e : Closing F) (place : ℕ) (en : Bool) (last : Option X) (bf : Buffered X F) (p : Pipe) (n : Counts) (v : V) → Core g out (streamed l e [] place en last) bf p n v false false
         → Budget mores cap (n_turns n) (may_count first) (has_counted first) → Opening first bf (is_over (b_left bf) (b_close bf)) → Rest g (b_run bf) (b_matched bf) → Kept out mores cap (fetch c first l e place last bf p n v)
-    kept_fetch first g [] ended place en last bf p n v k u o d = fetched first g (streamed [] ended [] place true last) bf p n v k u o d refl
-    kept_fetch first g [] (faulted f) place en last bf p n v k u o d = kept_stop (from_source on_streamed f) g (streamed [] (faulted f) [] place false last) bf p n v (may_count first) (has_counted first) k u d.group_none
+    kept_fetch first g [] (Ok end) place en last bf p n v k u o d = fetched first g (streamed [] (Ok end) [] place true last) bf p n v k u o d refl
+    kept_fetch first g [] (Err f) place en last bf p n v k u o d = kept_stop (from_source on_streamed f) g (streamed [] (Err f) [] place false last) bf p n v (may_count first) (has_counted first) k u d.group_none
     kept_fetch first g ([] ∷ l) e place en last bf p n v k u o d = record { ghosts = g; core = core_skip_s g out l e [] place en last bf p n v k; budget = u; now = (o, d) }
     kept_fetch first g ((x ∷ r) ∷ l) e place en last bf p n v k u o d =
         kept_cond (leb (place + length (x ∷ r)) most_rows) _ _
@@ -856,10 +857,10 @@ module _ {X F V : Type 0} (c : Setting X V) (laws : Laws c.within c.across) (sl 
         kept_stop (disordered on_buffered j) (loses_b g (x ∷ r)) st (buffered l e sizes first run [] false m last) p n v a b (core_fail_b g out st (x ∷ r) l e sizes first run en false m m last p n v k) u gn
 
     kept_load : (at_end : Outcome X F V) (ph : Phase X F) (g : Ghost X) (st : Streamed X F) (l : List (List X)) (e : Closing F) (sizes : List ℕ) (first : ℕ) (run : List X) (en m : Bool) (last : Option X) (p : Pipe) (n : Counts) (v : V) (a b : ℕ)
-        → Core g out st (buffered l e sizes first run [] en m last) p n v false false → Budget mores cap (n_turns n) a b → g.group ≡ [] → (Core g out st (buffered [] ended sizes first run [] en m last) p n v false false → Kept out mores cap at_end) → Reading g st first run m n v ph
+        → Core g out st (buffered l e sizes first run [] en m last) p n v false false → Budget mores cap (n_turns n) a b → g.group ≡ [] → (Core g out st (buffered [] (Ok tt) sizes first run [] en m last) p n v false false → Kept out mores cap at_end) → Reading g st first run m n v ph
         → Kept out mores cap (load c at_end ph st l e sizes first run m last p n v)
-    kept_load at_end ph g st [] ended sizes first run en m last p n v a b k u gn end next = end k
-    kept_load at_end ph g st [] (faulted f) sizes first run en m last p n v a b k u gn end next = kept_stop (from_source on_buffered f) g st (buffered [] (faulted f) sizes first run [] false m last) p n v a b k u gn
+    kept_load at_end ph g st [] (Ok end) sizes first run en m last p n v a b k u gn over next = over k
+    kept_load at_end ph g st [] (Err f) sizes first run en m last p n v a b k u gn end next = kept_stop (from_source on_buffered f) g st (buffered [] (Err f) sizes first run [] false m last) p n v a b k u gn
     kept_load at_end ph g st ([] ∷ l) e sizes first run en m last p n v a b k u gn end next = next g l e sizes [] last p refl refl refl (core_skip_b g out st l e sizes first run [] en false m m last p n v k)
     kept_load at_end ph g st ((x ∷ r) ∷ l) e sizes first run en m last p n v a b k u gn end next =
         let bf = buffered ((x ∷ r) ∷ l) e sizes first run [] false m last in
@@ -925,7 +926,7 @@ module _ {X F V : Type 0} (c : Setting X V) (laws : Laws c.within c.across) (sl 
     kept_on false g st bf p (counts t nr nu hd) v k u d h = (
       record { ghosts = g; core = k; budget = record { under = omega arith; told = omega (arith, u.told) }; now = (d, h) },
       omega (arith, u.under),
-      λ q. absurd (let z : ◌≡◌ {A = ℕ} 0 1 = cc in omega arith),
+      λ q. cc,
     )
 
     kept_end : (f : Bool) (g : Ghost X) (l : List (List X)) (e : Closing F) (place : ℕ) (last : Option X) (bl' : List (List X)) (be : Closing F) (sizes : List ℕ) (first : ℕ) (m : Bool) (lastb : Option X) (p : Pipe) (n : Counts) (v : V)
@@ -1276,7 +1277,7 @@ module _ {X F V : Type 0} (c : Setting X V) (laws : Laws c.within c.across) (sl 
         kept_paired fair i.ghosts l e x rows place en last bl' be sizes first y run beyond b_en m lastb j (pipe base marks noted unfrozen entries []) n v i.core i.budget i.now.0
     kept_step fair (pairing (z ∷ todo) j) (streamed l e (x ∷ rows) place en last) (buffered bl' be sizes first (y ∷ run) beyond b_en m lastb) base marks noted unfrozen entries n v i =
         kept_pair i.ghosts l e x rows place en last bl' be sizes first y run beyond b_en m lastb z todo j (pipe base marks noted unfrozen entries []) n v i.core i.budget i.now.0 i.now.1
-    kept_step fair (stopped f) st bf base marks noted unfrozen entries n v i = kept_answer (failed f) st bf (pipe base marks noted unfrozen entries []) n v (stopped f) refl (λ q. absurd (let z : ◌≡◌ {A = ℕ} 0 1 = cc in omega arith)) i
+    kept_step fair (stopped f) st bf base marks noted unfrozen entries n v i = kept_answer (failed f) st bf (pipe base marks noted unfrozen entries []) n v (stopped f) refl (λ q. cc) i
 
     -- what is due does not matter to the phase
     now_due : (g : Ghost X) (st : Streamed X F) (bf : Buffered X F) (base : ℕ) (marks : List Mark) (noted : List ℕ) (unfrozen entries : List Entry) (due due' : List Record) (ph : Phase X F) (so bo : Bool) → length due' ≤ length due
@@ -1301,7 +1302,7 @@ module _ {X F V : Type 0} (c : Setting X V) (laws : Laws c.within c.across) (sl 
           budget = i.budget;
           now = now_due i.ghosts st bf base marks noted unfrozen entries (r ∷ due) due ph (so_of st ph) (bo_of bf ph) (omega arith) i.now;
         })
-        (λ e. kept_answer waiting st bf (pipe base marks noted unfrozen entries (r ∷ due)) (counts t nr nu h) v ph refl (λ q. absurd (let z : ◌≡◌ {A = ℕ} 0 1 = cc in omega arith)) i)
+        (λ e. kept_answer waiting st bf (pipe base marks noted unfrozen entries (r ∷ due)) (counts t nr nu h) v ph refl (λ q. cc) i)
 
   -- ---- calls
 
@@ -1366,8 +1367,8 @@ module _ {X F V : Type 0} (c : Setting X V) (laws : Laws c.within c.across) (sl 
 
   done_stays : {s s' : State X F V} {l : List Record} {a : Answer F} → Turned c s l a s' → IsDone s → IsDone s'
   done_stays (answers {s = s} {s' = s'} e) d = subst IsDone (ap (λ (o : Outcome X F V). next_of o s) (sym (done_micro s d) ∙ e)) d
-  done_stays (steps {s = s} e t) d = let q = done_micro s d in absurd (let z : ◌≡◌ {A = ℕ} 0 1 = cc in omega arith)
-  done_stays (hands {s = s} e t) d = let q = done_micro s d in absurd (let z : ◌≡◌ {A = ℕ} 0 1 = cc in omega arith)
+  done_stays (steps {s = s} e t) d = let q = done_micro s d in cc
+  done_stays (hands {s = s} e t) d = let q = done_micro s d in cc
 
   mores_push : (told : List (Answer F)) (a : Answer F) → mores (told ++ a ∷ []) ≡ mores told + one_more a
   mores_push [] a = omega arith
@@ -1375,20 +1376,7 @@ module _ {X F V : Type 0} (c : Setting X V) (laws : Laws c.within c.across) (sl 
 
   -- the last of a list, or one before
   has_push : {A : Type 0} (l : List A) (a b : A) → Has (l ++ a ∷ []) b → Has l b ⊎ (a ≡ b)
-  has_push [] a b h = inr (go h.0 h.1 (h.2 a))
-    where
-      go : (k : ℕ) → k < 1 → get_or (a ∷ []) k a ≡ b → a ≡ b
-      go zero l e = e
-      go (suc k) l e = absurd (omega arith)
-  has_push (x ∷ l) a b h = go h.0 h.1 h.2 (has_push l a b)
-    where
-      go : (k : ℕ) → k < length (x ∷ (l ++ a ∷ [])) → ((d : _) → get_or (x ∷ (l ++ a ∷ [])) k d ≡ b) → (Has (l ++ a ∷ []) b → Has l b ⊎ (a ≡ b)) → Has (x ∷ l) b ⊎ (a ≡ b)
-      go zero q e r = inl (0, omega arith, e)
-      go (suc k) q e r = up (r (k, omega arith, e))
-        where
-          up : Has l b ⊎ (a ≡ b) → Has (x ∷ l) b ⊎ (a ≡ b)
-          up (inl z) = inl (suc z.0, omega (arith, z.1), z.2)
-          up (inr z) = inr z
+  has_push l a b h = ⊎_elim (λ k. inl (at_from_Contains l b k)) inr (Contains-push_cases l a b (Contains-from_at (l ++ a ∷ []) b h))
 
   pub runs_inv : Fair c → {out : List Record} {told : List (Answer F)} {s : State X F V} → Runs c sl sc bl bc v₀ out told s → Inv out (mores told) (turns_of s + 1) s × (Has told finished → IsDone s)
   runs_inv fair none = (opened_inv, λ h. absurd (omega (arith, h.1)))
@@ -1598,7 +1586,7 @@ module _ {X F V : Type 0} (c : Setting X V) (laws : Laws c.within c.across) (sl 
       record {
         once = distinct_front out own_rows.0 (distinct_perm (Permᴰ.symm (perm_from_same _ _ own_rows.1)) (table_distinct (passes c) c.keeps_streamed c.keeps_buffered (g.read_s ++ []) (g.read_b ++ [])));
         belongs = λ s' b' fs fb gs gb.
-            let q = covered out (mores told) (t + 1) st bf p n v ph i s' b' fs fb (sorted_on c.within g.read_s s' k.streamed_side.sorted (subst (λ x. GoesOn c.within (last_of None x) s') rs gs)) (sorted_on c.within g.read_b b' k.buffered_side.sorted (subst (λ x. GoesOn c.within (last_of None x) b') rb gb)) in
+            let q = covered out (mores told) (t + 1) st bf p n v ph i s' b' fs fb (sorted_on c.within g.read_s s' k.streamed_side.sorted (subst (λ x. InOrderAfter c.within (last_of None x) s') rs gs)) (sorted_on c.within g.read_b b' k.buffered_side.sorted (subst (λ x. InOrderAfter c.within (last_of None x) b') rb gb)) in
             subst (λ x. AllByRecursion (Has (joined c (x ++ s') (take (first + length (run ++ beyond)) (rows_in bl) ++ b'))) out) (sym rs) (subst (λ x. AllByRecursion (Has (joined c (g.read_s ++ s') (x ++ b'))) out) (sym rb) (all_have out q.0 _ (perm_from_same _ _ q.1)));
         whole = λ z. shuffled_from_perm (perm_from_same _ _ (ended_facts out (mores told) (t + 1) st bf p t nr nu h v ph i (fin z)).all_out);
         turns = k.tally.turns_are;

@@ -1,7 +1,8 @@
 -- What the pipe's small steps keep.
 use Rattle.std.proofs.Common.{◌≡◌, ℕ, zero, suc, ◌+◌, ◌-◌, ◌<◌, ◌≤◌, Bool, true, false, cond, not, ltb, leb, ◌⊎◌, List, [], ◌∷◌, ◌++◌, length, take, drop, filter, sym, refl, ap, ◌∙◌, subst, inl, inr, append_assoc, append-nil, arith, length-append, length-drop, take-append-drop}
 use Rattle.std.proofs.lemmas.List.Filters.{length-filter_both}
-use Rattle.std.proofs.lemmas.List.{take-append-le, drop-append-le, length-take-le, nil_from_length}
+use Rattle.std.proofs.lemmas.List.{length-map, map-append, take-append-le, drop-append-le, length-take-le, nil_from_length}
+use Rattle.std.proofs.Math.Nat.{add-zero}
 use Rattle.std.specs.List.{AllByRecursion}
 use Rattle.std.proofs.ByRecursion.{All-append, All-weaker, All-push}
 use Rattle.std.proofs.lemmas.Bool.{ne_eqb, leb-true, leb-false, lt-ltb, le-ltb}
@@ -11,7 +12,7 @@ use Rattle.rows.specs.declared.record.Record.TheVariants.{Pair, LeftAlone, Right
 use Rattle.law.specs.Pipe.{Entry, fixed, judged, Mark, unseen, failing, met, marking, goes_on, corrected, plain, settled, alones, fixeds, failures, Pipe, pipe, put, freeze, freeze_all, correct, flush, freeze_full, push, note, part}
 use Rattle.law.specs.Pipe.{mark_at, Left, left, giving, leave, first_leaves, given_by}
 use Rattle.law.specs.Machine.{total_size, base_of, is_full}
-use Rattle.law.proofs.Totals.{total, total_append}
+use Rattle.law.proofs.Totals.{shift, total, total_append}
 
 -- ---- settling, part by part
 
@@ -103,7 +104,7 @@ module _ (f : Record → ℕ) where
   -- lone records put where no row's pairs go on
   pub worth_between : (d : Bool) (a : List Entry) (l : List Record) (b : List Entry) → (l ≡ []) ⊎ Apart a b → worth d (a ++ (fixeds l ++ b)) ≡ worth d (a ++ b) + total f l
   worth_between d a [] b h = omega arith
-  worth_between d a (r ∷ l) b (inl e) = absurd (let z : ◌≡◌ {A = ℕ} 0 1 = cc in omega arith)
+  worth_between d a (r ∷ l) b (inl e) = cc
   worth_between d a (r ∷ l) b (inr h) = omega (arith, worth_apart d a (fixeds (r ∷ l) ++ b) (apart_none a _ (λ i. refl)), worth_fixeds d (r ∷ l) b, worth_apart d a b h)
 
 -- ---- where the groups of pairs stand
@@ -154,7 +155,7 @@ parts (full a n l e b) = (a, e, b)
 
 none_alone : (l : List ℕ) → l ≡ [] → alones l ≡ []
 none_alone [] e = refl
-none_alone (j ∷ l) e = absurd (let z : ◌≡◌ {A = ℕ} 0 1 = cc in omega arith)
+none_alone (j ∷ l) e = cc
 
 module _ (size place : ℕ) (group : List Entry) (own : AllByRecursion (Own place) group) where
   from_group : AllByRecursion (From place) group
@@ -276,16 +277,8 @@ plain_short (fixed r ∷ l) = omega (arith, plain_short l)
 plain_short (judged i j true ∷ l) = omega (arith, plain_short l)
 plain_short (judged i j false ∷ l) = omega (arith, plain_short l)
 
-pub length_fixeds : (l : List Record) → length (fixeds l) ≡ length l
-length_fixeds [] = refl
-length_fixeds (r ∷ l) = ap suc (length_fixeds l)
-
-pub length_alones : (l : List ℕ) → length (alones l) ≡ length l
-length_alones [] = refl
-length_alones (j ∷ l) = ap suc (length_alones l)
-
 pub lone_entries : (noted : List ℕ) (unfrozen : List Entry) → length (fixeds (alones noted) ++ unfrozen) ≡ length noted + length unfrozen
-lone_entries noted unfrozen = omega (arith, length-append (fixeds (alones noted)) unfrozen, length_fixeds (alones noted), length_alones noted)
+lone_entries noted unfrozen = omega (arith, length-append (fixeds (alones noted)) unfrozen, length-map (alones noted) fixed, length-map noted RightAlone)
 
 -- a step that adds nothing
 pub record Smaller (p q : Pipe) : Type 0 where
@@ -358,14 +351,8 @@ unseen_few j (failing ∷ l) = omega (arith, unseen_few (suc j) l)
 unseen_few j (met ∷ l) = omega (arith, unseen_few (suc j) l)
 
 pub unseens_total : (f : ℕ → ℕ) (j : ℕ) (a b : List Mark) → total f (unseens j (a ++ b)) ≡ total f (unseens j a) + total f (unseens (j + length a) b)
-unseens_total f j [] b = omega (arith, ap (λ (k : ℕ). total f (unseens k b)) (zero_right j))
-  where
-    zero_right : (j : ℕ) → j + 0 ≡ j
-    zero_right j = omega arith
+unseens_total f j [] b = omega (arith, ap (λ (k : ℕ). total f (unseens k b)) (add-zero j))
 unseens_total f j (m ∷ a) b = omega (arith, total_append f (when (is_unseen m) (j ∷ [])) (unseens (suc j) (a ++ b)), total_append f (when (is_unseen m) (j ∷ [])) (unseens (suc j) a), unseens_total f (suc j) a b, ap (λ (k : ℕ). total f (unseens k b)) (shift j (length a)))
-  where
-    shift : (j n : ℕ) → suc j + n ≡ j + suc n
-    shift j n = omega arith
 
 fails_append : (a b : List Mark) → fails_in (a ++ b) ≡ fails_in a + fails_in b
 fails_append [] b = omega arith
@@ -510,12 +497,8 @@ flushed false size place (pipe base marks noted unfrozen entries due) m = (
 )
 
 -- more rows are noted, where the pipe is not full
-alones_append : (a b : List ℕ) → alones (a ++ b) ≡ alones a ++ alones b
-alones_append [] b = refl
-alones_append (j ∷ a) b = ap (λ (l : List Record). RightAlone j ∷ l) (alones_append a b)
-
 pub noted_worth : (f : Record → ℕ) (d : Bool) (l : List ℕ) (p : Pipe) → worth_of f d (note l p) ≡ worth_of f d p + total f (alones l)
-noted_worth f d l (pipe base marks noted unfrozen entries due) = omega (arith, ap (total f) (alones_append noted l), total_append f (alones noted) (alones l))
+noted_worth f d l (pipe base marks noted unfrozen entries due) = omega (arith, ap (total f) (map-append RightAlone noted l), total_append f (alones noted) (alones l))
 
 pub noted_mode : (d : Bool) (size place : ℕ) (l : List ℕ) (p : Pipe) → is_full d size p ≡ false → Moded d size place [] p → Moded d size place [] (note l p)
 noted_mode true size place l (pipe base marks noted unfrozen entries due) e m = mode_note size place l (leb-false _ _ e) m
@@ -529,9 +512,6 @@ noted_marks l (pipe base marks noted unfrozen entries due) h = (refl, refl, h)
 failures_append : (j : ℕ) (a b : List Mark) → failures j (a ++ b) ≡ failures j a ++ failures (j + length a) b
 failures_append j [] b = ap (λ (k : ℕ). failures k b) (omega arith)
 failures_append j (m ∷ a) b = rw (failures_append (suc j) a b, shift j (length a)) (sym (append_assoc (when (Rattle.law.specs.Pipe.is_failing m) (RightAlone j ∷ [])) _ _))
-  where
-    shift : (j n : ℕ) → suc j + n ≡ j + suc n
-    shift j n = omega arith
 
 when_total : (f : Record → ℕ) (t : Bool) (a b : List Record) → total f (when t (a ++ b)) ≡ total f (when t a) + total f (when t b)
 when_total f true a b = total_append f a b
@@ -590,7 +570,7 @@ give keeps m base n sizes noted eb tail (left base' sizes' marks' noted' given) 
     r.lengths,
     length-append (alones (filter (λ j. ltb j (base + n)) noted) ++ when keeps (failures base (take n eb))) given,
     length-append (alones (filter (λ j. ltb j (base + n)) noted)) (when keeps (failures base (take n eb))),
-    length_alones (filter (λ j. ltb j (base + n)) noted),
+    length-map (filter (λ j. ltb j (base + n)) noted) RightAlone,
     failures_count keeps base (take n eb),
     length-filter_both (λ j. ltb j (base + n)) (λ j. not (ltb j (base + n))) (λ _. refl) noted,
     ap fails_in (take-append-drop n eb),
@@ -667,7 +647,7 @@ parted d size place keeps m sizes (pipe base marks noted unfrozen entries due) e
       range = tt;
       empties = r.empties;
       fewer = r.fewer;
-      lengths = omega (arith, r.lengths, length-append entries (unfrozen ++ fixeds given), length-append unfrozen (fixeds given), length_fixeds given);
+      lengths = omega (arith, r.lengths, length-append entries (unfrozen ++ fixeds given), length-append unfrozen (fixeds given), length-map given fixed);
       noting = r.noting;
       short = omega arith;
     }
@@ -681,7 +661,7 @@ parted d size place keeps m sizes (pipe base marks noted unfrozen entries due) e
       range = tt;
       empties = r.empties;
       fewer = r.fewer;
-      lengths = omega (arith, r.lengths, length-append due (plain (unfrozen ++ fixeds given)), plain_short (unfrozen ++ fixeds given), length-append unfrozen (fixeds given), length_fixeds given);
+      lengths = omega (arith, r.lengths, length-append due (plain (unfrozen ++ fixeds given)), plain_short (unfrozen ++ fixeds given), length-append unfrozen (fixeds given), length-map given fixed);
       noting = r.noting;
       short = omega arith;
     }

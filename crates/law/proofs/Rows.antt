@@ -13,8 +13,8 @@ use Rattle.merge.proofs.Steps.{Shuns}
 use Rattle.merge.proofs.Flags.{meets_push, meets_none}
 use Rattle.law.specs.Pipe.{Entry, judged, Mark, unseen, failing, met, marked, mark_at, corrected, plain, settled, alones, places, failures}
 use Rattle.law.specs.Machine.{disorder, last_of}
-use Rattle.law.specs.Law.{GoesOn}
-use Rattle.law.proofs.Totals.{total}
+use Rattle.law.specs.Law.{InOrderAfter}
+use Rattle.law.proofs.Totals.{shift, total}
 use Rattle.law.proofs.Pipes.{Own, unseens}
 
 -- ---- order
@@ -76,22 +76,22 @@ module _ {X : Type 0} (within : X → X → Ordering) where
   not_after Equal e = omega arith
   not_after Greater e = absurd (true≢false e)
 
-  in_order : (w : Option X) (l : List X) (k : ℕ) → disorder within w l k ≡ None → GoesOn within w l
+  in_order : (w : Option X) (l : List X) (k : ℕ) → disorder within w l k ≡ None → InOrderAfter within w l
   in_order None [] k e = tt
   in_order None (x ∷ l) k e = in_order (Some x) l (suc k) e
   in_order (Some w) [] k e = (tt, tt)
   in_order (Some w) (x ∷ l) k e = go (is_after (within w x)) refl e (in_order (Some x) l (suc k))
     where
-      go : (t : Bool) → is_after (within w x) ≡ t → cond t (Some k) (disorder within (Some x) l (suc k)) ≡ None → (disorder within (Some x) l (suc k) ≡ None → GoesOn within (Some x) l) → GoesOn within (Some w) (x ∷ l)
-      go true a q r = absurd (let z : ◌≡◌ {A = ℕ} 0 1 = cc in omega arith)
+      go : (t : Bool) → is_after (within w x) ≡ t → cond t (Some k) (disorder within (Some x) l (suc k)) ≡ None → (disorder within (Some x) l (suc k) ≡ None → InOrderAfter within (Some x) l) → InOrderAfter within (Some w) (x ∷ l)
+      go true a q r = cc
       go false a q r = (not_after (within w x) a, r q)
 
   -- what may follow makes a sorted log with what was read
-  follows_on : (x : X) (s l : List X) → Sorted within (x ∷ s) → GoesOn within (last_of (Some x) s) l → Sorted within (x ∷ (s ++ l))
+  follows_on : (x : X) (s l : List X) → Sorted within (x ∷ s) → InOrderAfter within (last_of (Some x) s) l → Sorted within (x ∷ (s ++ l))
   follows_on x [] l h g = g
   follows_on x (y ∷ s) l h g = (h.0, follows_on y s l h.1 g)
 
-  pub sorted_on : (s l : List X) → Sorted within s → GoesOn within (last_of None s) l → Sorted within (s ++ l)
+  pub sorted_on : (s l : List X) → Sorted within s → InOrderAfter within (last_of None s) l → Sorted within (s ++ l)
   sorted_on [] l h g = g
   sorted_on (x ∷ s) l h g = follows_on x s l h g
 
@@ -250,6 +250,3 @@ mark_middle (suc n) v (k ∷ a) m b e = ap (λ (l : List Mark). k ∷ l) (mark_m
 pub pairs_append : {X : Type 0} (passes : X → X → Bool) (i : ℕ) (x : X) (j : ℕ) (a b : List X) → pairs_of passes i x j (a ++ b) ≡ pairs_of passes i x j a ++ pairs_of passes i x (j + length a) b
 pairs_append passes i x j [] b = ap (λ (k : ℕ). pairs_of passes i x k b) (omega arith)
 pairs_append passes i x j (y ∷ a) b = ap (λ (l : List Record). when (passes x y) (Pair i j ∷ []) ++ l) (pairs_append passes i x (suc j) a b ∙ ap (λ (k : ℕ). pairs_of passes i x (suc j) a ++ pairs_of passes i x k b) (shift j (length a))) ∙ sym (append_assoc (when (passes x y) (Pair i j ∷ [])) _ _)
-  where
-    shift : (j n : ℕ) → suc j + n ≡ j + suc n
-    shift j n = omega arith

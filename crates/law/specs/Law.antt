@@ -1,7 +1,7 @@
 -- The law of all runs of a join, from the opened state on.
-use Rattle.std.specs.Prelude.{◌≡◌, ℕ, ◌+◌, ◌-◌, ◌≤◌, min, Bool, true, false, ◌&&◌, ◌⊎◌, List, [], ◌∷◌, ◌++◌, length, take, Some, None, Option}
+use Rattle.std.specs.Prelude.{◌≡◌, ℕ, ◌+◌, ◌-◌, ◌≤◌, min, Bool, true, false, ◌&&◌, ◌⊎◌, List, [], ◌∷◌, ◌++◌, length, take, Some, None, Option, Ok, Err}
 use Rattle.std.specs.declared.cmp.Ordering.{Ordering}
-use Rattle.std.specs.List.{ContainsAt as Has, AllByRecursion}
+use Rattle.std.specs.List.{ContainsAt as Has, AllByRecursion, flat_map}
 use Rattle.std.specs.List.Sorted.{IsPermutation}
 use Rattle.rows.specs.Order.{Laws, is_same}
 use Rattle.merge.specs.Table.{table, Distinct}
@@ -10,17 +10,16 @@ use Rattle.merge.specs.Path.{tally, one_row, one_run, start}
 use Rattle.merge.specs.Decided.{Follows}
 use Rattle.rows.specs.declared.record.Record.{Record}
 use Rattle.law.specs.Pipe.{pipe}
-use Rattle.law.specs.Machine.{Setting, on_streamed, on_buffered, Closing, ended, faulted, disordered, oversized, overlong, crowded, from_source, Answer, more, waiting, finished, failed, Phase, fetching, seeding, extending, closing, turning, passing, done, pairing, stopped, streamed, buffered, counts, State, state, Turned, opened, last_of, most_handed}
+use Rattle.law.specs.Machine.{Setting, on_streamed, on_buffered, Closing, disordered, oversized, overlong, crowded, from_source, Answer, more, waiting, finished, failed, Phase, fetching, seeding, extending, closing, turning, passing, done, pairing, stopped, streamed, buffered, counts, State, state, Turned, opened, last_of, most_handed}
 
 -- all rows of a list of batches
 abbrev pub rows_in : {X : Type 0} → List (List X) → List X
-rows_in [] = []
-rows_in (b ∷ l) = b ++ rows_in l
+rows_in l = flat_map (λ b. b) l
 
 -- no batch is left, and the source closes with the end
 abbrev pub is_over : {X F : Type 0} → List (List X) → Closing F → Bool
-is_over [] ended = true
-is_over [] (faulted f) = false
+is_over [] (Ok end) = true
+is_over [] (Err f) = false
 is_over (b ∷ l) e = false
 
 -- a batch of the streamed (buffered) side failed
@@ -114,9 +113,9 @@ abbrev pub Ample : {X V : Type 0} → Setting X V → Type 0
 Ample c = (1 ≤ c.size) × (1 ≤ c.buffered_table)
 
 -- rows that may follow in key order
-abbrev pub GoesOn : {X : Type 0} → (X → X → Ordering) → Option X → List X → Type 0
-GoesOn within None l = Sorted within l
-GoesOn within (Some w) l = Leads within w l × Sorted within l
+abbrev pub InOrderAfter : {X : Type 0} → (X → X → Ordering) → Option X → List X → Type 0
+InOrderAfter within None l = Sorted within l
+InOrderAfter within (Some w) l = Leads within w l × Sorted within l
 
 -- what a kind of join with or without a filter comes to: deferred if filtered and outer; without a filter every pair passes
 abbrev pub Fair : {X V : Type 0} → Setting X V → Type 0
@@ -139,7 +138,7 @@ module _ {X F V : Type 0} (c : Setting X V) (sl : List (List X)) (sc : Closing F
     pub once : Distinct out
     -- whatever may follow the rows read
     pub belongs : (s' b' : List X) → Follows (streamed_over s) s' → Follows (buffered_over s) b'
-        → GoesOn c.within (last_of None (take (streamed_read s) (rows_in sl))) s' → GoesOn c.within (last_of None (take (buffered_read s) (rows_in bl))) b'
+        → InOrderAfter c.within (last_of None (take (streamed_read s) (rows_in sl))) s' → InOrderAfter c.within (last_of None (take (buffered_read s) (rows_in bl))) b'
         → AllByRecursion (Has (joined c (take (streamed_read s) (rows_in sl) ++ s') (take (buffered_read s) (rows_in bl) ++ b'))) out
     pub whole : Has told finished → IsPermutation out (joined c (rows_in sl) (rows_in bl))
     pub turns : turns_of s ≡ rows_of s + runs_of s

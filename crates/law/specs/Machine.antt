@@ -1,5 +1,5 @@
 -- The join as a machine of small steps.
-use Rattle.std.specs.Prelude.{◌≡◌, ℕ, suc, ◌+◌, ◌-◌, min, Bool, true, false, cond, not, ◌&&◌, List, [], ◌∷◌, ◌++◌, length, replicate, Some, None, Option, nat_le}
+use Rattle.std.specs.Prelude.{◌≡◌, ℕ, suc, ◌+◌, ◌-◌, min, Bool, true, false, cond, not, ◌&&◌, List, [], ◌∷◌, ◌++◌, length, replicate, Some, None, Option, Ok, Err, Result, nat_le}
 use Rattle.std.specs.declared.cmp.Ordering.TheVariants.{Less, Equal, Greater}
 use Rattle.std.specs.declared.cmp.Ordering.{Ordering}
 use Rattle.rows.specs.Order.{is_same, is_after}
@@ -13,10 +13,9 @@ use Rattle.law.specs.Pipe.{fixed, judged, unseen, Pipe, pipe, places, freeze, fl
 pub data Side : Type 0 where
   on_streamed on_buffered : Side
 
--- how a source's list of batches closes
-pub data Closing (F : Type 0) : Type 0 where
-  ended : Closing F
-  faulted : F → Closing F
+-- how a source's list of batches closes: by the end, or by a fault
+abbrev pub Closing : Type 0 → Type 0
+Closing F = Result (Unit {0}) F
 
 pub data Fault (F : Type 0) : Type 0 where
   disordered oversized overlong : Side → ℕ → Fault F
@@ -138,8 +137,8 @@ module _ {X F V : Type 0} (c : Setting X V) where
   fetch_taken first r l e place last bf (pipe base marks noted (u ∷ unfrozen) entries due) n v = going (state (streamed (r ∷ l) e [] place false last) bf (freeze c.deferred (pipe base marks noted (u ∷ unfrozen) entries due)) n v (fetching first))
 
   abbrev pub fetch : Bool → List (List X) → Closing F → ℕ → Option X → Buffered X F → Pipe → Counts → V → Outcome X F V
-  fetch first [] ended place last bf p n v = going (state (streamed [] ended [] place true last) bf p n v (after_fetch first))
-  fetch first [] (faulted f) place last bf p n v = stops (from_source on_streamed f) (streamed [] (faulted f) [] place false last) bf p n v
+  fetch first [] (Ok end) place last bf p n v = going (state (streamed [] (Ok end) [] place true last) bf p n v (after_fetch first))
+  fetch first [] (Err f) place last bf p n v = stops (from_source on_streamed f) (streamed [] (Err f) [] place false last) bf p n v
   fetch first ([] ∷ l) e place last bf p n v = going (state (streamed l e [] place false last) bf p n v (fetching first))
   fetch first ((x ∷ r) ∷ l) e place last bf p n v =
       cond (nat_le (place + length (x ∷ r)) most_rows)
@@ -155,8 +154,8 @@ module _ {X F V : Type 0} (c : Setting X V) where
   load_checked (Some k) ph st l e r sizes first run matched last p n v = stops (disordered on_buffered k) st (buffered l e sizes first run [] false matched last) p n v
 
   abbrev pub load : Outcome X F V → Phase X F → Streamed X F → List (List X) → Closing F → List ℕ → ℕ → List X → Bool → Option X → Pipe → Counts → V → Outcome X F V
-  load at_end ph st [] ended sizes first run matched last p n v = at_end
-  load at_end ph st [] (faulted f) sizes first run matched last p n v = stops (from_source on_buffered f) st (buffered [] (faulted f) sizes first run [] false matched last) p n v
+  load at_end ph st [] (Ok end) sizes first run matched last p n v = at_end
+  load at_end ph st [] (Err f) sizes first run matched last p n v = stops (from_source on_buffered f) st (buffered [] (Err f) sizes first run [] false matched last) p n v
   load at_end ph st ([] ∷ l) e sizes first run matched last p n v = going (state st (buffered l e sizes first run [] false matched last) p n v ph)
   load at_end ph st ((x ∷ r) ∷ l) e sizes first run matched last p n v =
       cond (nat_le ((first + length run) + length (x ∷ r)) most_rows)
@@ -169,7 +168,7 @@ module _ {X F V : Type 0} (c : Setting X V) where
 
   abbrev pub seed : Bool → Streamed X F → Buffered X F → Pipe → Counts → V → Outcome X F V
   seed f st (buffered l e sizes first run (z ∷ beyond) ended' matched last) p n v = going (state st (buffered l e sizes first (z ∷ []) beyond false false last) p n v (extending f))
-  seed f st (buffered l e sizes first run [] ended' matched last) p n v = load (going (state st (buffered [] ended sizes first [] [] true false last) p n v (closing f))) (seeding f) st l e sizes first [] false last p n v
+  seed f st (buffered l e sizes first run [] ended' matched last) p n v = load (going (state st (buffered [] (Ok tt) sizes first [] [] true false last) p n v (closing f))) (seeding f) st l e sizes first [] false last p n v
 
   abbrev pub extend : Bool → Streamed X F → Buffered X F → Pipe → Counts → V → Outcome X F V
   extend f st (buffered l e sizes first [] beyond ended' matched last) p n v = going (state st (buffered l e sizes first [] beyond ended' matched last) p n v (seeding f))
@@ -177,7 +176,7 @@ module _ {X F V : Type 0} (c : Setting X V) where
       (going (state st (buffered l e sizes first (y ∷ (run ++ z ∷ [])) beyond ended' matched last) p n v (extending f)))
       (going (state st (buffered l e sizes first (y ∷ run) (z ∷ beyond) ended' matched last) p n v (closing f)))
   extend f st (buffered l e sizes first (y ∷ run) [] ended' matched last) p n v =
-      load (going (state st (buffered [] ended sizes first (y ∷ run) [] false matched last) p n v (closing f))) (extending f) st l e sizes first (y ∷ run) matched last p n v
+      load (going (state st (buffered [] (Ok tt) sizes first (y ∷ run) [] false matched last) p n v (closing f))) (extending f) st l e sizes first (y ∷ run) matched last p n v
 
   -- the turn
 

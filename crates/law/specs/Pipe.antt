@@ -1,5 +1,5 @@
 -- What stands between a turn and the sink: unfrozen pairs and lone rows, the block, and the records that are due.
-use Rattle.std.specs.Prelude.{ℕ, zero, suc, ◌+◌, ◌-◌, Bool, true, false, cond, not, List, [], ◌∷◌, ◌++◌, length, take, drop, filter, ◌==◌, nat_le, nat_lt}
+use Rattle.std.specs.Prelude.{ℕ, zero, suc, ◌+◌, ◌-◌, Bool, true, false, cond, not, List, [], ◌∷◌, ◌++◌, map, length, take, drop, filter, ◌==◌, nat_le, nat_lt}
 use Rattle.merge.specs.Table.{when}
 use Rattle.rows.specs.declared.record.Record.{Record}
 use Rattle.rows.specs.declared.record.Record.TheVariants.{Pair, LeftAlone, RightAlone}
@@ -54,12 +54,10 @@ settled true l = corrected false l
 settled false l = plain l
 
 abbrev pub alones : List ℕ → List Record
-alones [] = []
-alones (j ∷ l) = RightAlone j ∷ alones l
+alones = map RightAlone
 
 abbrev pub fixeds : List Record → List Entry
-fixeds [] = []
-fixeds (r ∷ l) = fixed r ∷ fixeds l
+fixeds = map fixed
 
 -- the places of n rows from j on
 abbrev pub places : ℕ → ℕ → List ℕ

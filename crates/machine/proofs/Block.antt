@@ -1,9 +1,10 @@
 -- What freezing and handing over make of the block, in the plain machine.
 use Rattle.std.proofs.Common.{◌≡◌, ℕ, ◌<◌, ◌≤◌, Bool, true, false, cond, List, [], ◌++◌, map, sym, refl, ap, ◌∙◌, subst, true≢false, append-nil}
+use Rattle.std.proofs.lemmas.List.{map-append}
 use Rattle.std.specs.List.{AllByRecursion}
 use Rattle.std.proofs.ByRecursion.{All-append, All-weaker}
 use Rattle.rows.specs.declared.record.Record.{Record}
-use Rattle.merge.specs.Sides.{oriented}
+use Rattle.rows.specs.Sides.{oriented}
 use Rattle.law.specs.Pipe.{Mark, pipe, fixeds, alones, put}
 use Rattle.law.specs.Pipe.{Entry as plain_entry, freeze as plain_freeze, freeze_all as plain_freeze_all, correct as plain_correct, corrected as plain_corrected, flush as plain_flush, marking as plain_marking}
 use Rattle.pipeline.specs.declared.entry.Entry.{Entry}
@@ -12,7 +13,7 @@ use Rattle.pipeline.specs.States.{marking}
 use Rattle.pipeline.specs.Freezing.{judged_all}
 use Rattle.pipeline.specs.Block.{Queued, freeze, freeze_all, release, correct}
 use Rattle.machine.specs.Machine.{Setting, deferred, let_go, flush}
-use Rattle.machine.proofs.Entries.{mark_of, entry_of, place_of, Made, Frozen, Noted, entries_judged, entries_append, frozen_judged, released, corrected_is, marking_is, noted_are}
+use Rattle.machine.proofs.Entries.{mark_of, entry_of, place_of, Made, Frozen, Noted, entries_judged, frozen_judged, released, corrected_is, marking_is, noted_are}
 use Rattle.machine.proofs.Plain.{pipe_of, WholeBlock}
 
 module _ {K : Type 0} (c : Setting K) (batch_of : ℕ → ℕ) where
@@ -37,7 +38,7 @@ module _ {K : Type 0} (c : Setting K) (batch_of : ℕ → ℕ) where
   -- entries freeze behind what is frozen
   pub put_is : (d : Bool) (base : ℕ) (states : List FilterState) (noted unfrozen frozen es : List Entry) (due : List Record) → AllFrozen es → (d ≡ false → frozen ≡ []) → due ≡ []
       → pipe_of c base states (let_go d (block noted unfrozen (frozen ++ es) due)) ≡ put d (entries es) (pipe base (map mark_of states) (places_of noted) (entries unfrozen) (entries frozen) (map (oriented c.kind) due))
-  put_is true base states noted unfrozen frozen es due h z w = ap (λ (l : List plain_entry). pipe base (map mark_of states) (places_of noted) (entries unfrozen) l (map (oriented c.kind) due)) (entries_append c.kind c.asks frozen es)
+  put_is true base states noted unfrozen frozen es due h z w = ap (λ (l : List plain_entry). pipe base (map mark_of states) (places_of noted) (entries unfrozen) l (map (oriented c.kind) due)) (map-append (entry_of c.kind c.asks) frozen es)
   put_is false base states noted unfrozen frozen es due h z w = rw (z refl, w) (ap (pipe base (map mark_of states) (places_of noted) (entries unfrozen) []) (released c.kind c.asks batch_of es h))
 
   -- the unfrozen freeze
@@ -50,7 +51,7 @@ module _ {K : Type 0} (c : Setting K) (batch_of : ℕ → ℕ) where
 
   -- what is frozen when all freezes
   pub all_are : (noted unfrozen : List Entry) → AllByRecursion (Noted c.kind c.asks) noted → entries (noted ++ judged_all c.asks unfrozen) ≡ fixeds (alones (places_of noted)) ++ entries unfrozen
-  all_are noted unfrozen h = entries_append c.kind c.asks noted (judged_all c.asks unfrozen) ∙ ap (λ (l : List plain_entry). l ++ entries (judged_all c.asks unfrozen)) (noted_are c.kind c.asks noted h) ∙ ap (λ (l : List plain_entry). fixeds (alones (places_of noted)) ++ l) (entries_judged c.kind c.asks unfrozen)
+  all_are noted unfrozen h = map-append (entry_of c.kind c.asks) noted (judged_all c.asks unfrozen) ∙ ap (λ (l : List plain_entry). l ++ entries (judged_all c.asks unfrozen)) (noted_are c.kind c.asks noted h) ∙ ap (λ (l : List plain_entry). fixeds (alones (places_of noted)) ++ l) (entries_judged c.kind c.asks unfrozen)
 
   pub all_frozen_are : (noted unfrozen : List Entry) → AllByRecursion (Noted c.kind c.asks) noted → AllByRecursion (Made c.kind c.asks batch_of) unfrozen → AllFrozen (noted ++ judged_all c.asks unfrozen)
   all_frozen_are noted unfrozen h k = All-append _ noted _ (noted_frozen noted h) (frozen_judged c.kind c.asks batch_of unfrozen k)
@@ -66,7 +67,7 @@ module _ {K : Type 0} (c : Setting K) (batch_of : ℕ → ℕ) where
   flush_cases : (d : Bool) (base : ℕ) (states : List FilterState) (q : Queued) → AllFrozen q.frozen → (d ≡ false → q.frozen ≡ []) → q.due ≡ []
       → (marks : List Mark) → map mark_of states ≡ marks → (all : List Entry) → AllFrozen all
       → pipe_of c base states (cond d (correct c.kind (block [] [] (q.frozen ++ all) q.due)) (release (block [] [] (q.frozen ++ all) q.due))) ≡ plain_correct (put d (entries all) (pipe base marks [] [] (entries q.frozen) (map (oriented c.kind) q.due)))
-  flush_cases true base states q h z w marks m all k = rw (w, m) (ap (pipe base marks [] [] []) (corrected_is c.kind c.asks batch_of false (q.frozen ++ all) (All-append _ q.frozen all h k) ∙ ap (plain_corrected false) (entries_append c.kind c.asks q.frozen all)))
+  flush_cases true base states q h z w marks m all k = rw (w, m) (ap (pipe base marks [] [] []) (corrected_is c.kind c.asks batch_of false (q.frozen ++ all) (All-append _ q.frozen all h k) ∙ ap (plain_corrected false) (map-append (entry_of c.kind c.asks) q.frozen all)))
   flush_cases false base states q h z w marks m all k = rw (w, m, z refl) (ap (pipe base marks [] [] []) (released c.kind c.asks batch_of all k ∙ sym (append-nil _)))
 
   -- all freezes, is corrected and handed over

@@ -1,5 +1,6 @@
 -- Entries of the block as entries of the plain machine: what freezing, marking, correction and handing over make of them.
 use Rattle.std.proofs.Common.{◌≡◌, ℕ, zero, suc, ◌+◌, ◌-◌, Bool, true, false, not, ◌&&◌, eqb, ◌⊎◌, List, [], ◌∷◌, ◌++◌, map, length, Some, None, Option, sym, refl, ap, ◌∙◌, subst, inl, inr, arith}
+use Rattle.std.proofs.lemmas.List.{map-append}
 use Rattle.std.specs.List.{AllByRecursion}
 use Rattle.std.proofs.lemmas.Bool.{cases_eq, eq-eqb, ne_eqb}
 use Rattle.rows.specs.declared.kind.Kind.{Kind}
@@ -7,7 +8,7 @@ use Rattle.rows.specs.declared.kind.Kind.TheVariants.{Inner, Left, Right, Full}
 use Rattle.rows.specs.declared.reading.Reading.{Reading}
 use Rattle.rows.specs.declared.record.Record.{Record}
 use Rattle.rows.specs.declared.record.Record.TheVariants.{Pair, LeftAlone, RightAlone}
-use Rattle.merge.specs.Sides.{oriented}
+use Rattle.rows.specs.Sides.{oriented}
 use Rattle.merge.specs.Table.{when}
 use Rattle.law.specs.Pipe.{fixed, judged, Mark, unseen, failing, met, goes_on, plain, alones, fixeds, failures, is_failing}
 use Rattle.law.specs.Pipe.{Entry as plain_entry, corrected as plain_corrected, marking as plain_marking, marked as plain_marked, mark_at as plain_mark_at}
@@ -125,11 +126,11 @@ module _ (kind : Kind) (asks : Reading → Reading → Bool) where
     kept_plain : (row : Option StreamedRow) (v : Option Bool) (r : Record) (said : Bool) (rest : List Record) (l : List plain_entry) → FitsRow row v r → JudgedRow row v said
         → map (oriented kind) rest ≡ plain l → map (oriented kind) (kept_record v r ++ rest) ≡ plain (told_of row r said ∷ l)
     kept_plain None None r said rest l h j e = ap (λ (q : List Record). oriented kind r ∷ q) e
-    kept_plain None (Some v) r said rest l h j e = absurd (let z : ◌≡◌ {A = ℕ} 0 1 = cc in omega arith)
-    kept_plain (Some at) None r said rest l h j e = absurd (let z : ◌≡◌ {A = ℕ} 0 1 = cc in omega arith)
+    kept_plain None (Some v) r said rest l h j e = cc
+    kept_plain (Some at) None r said rest l h j e = cc
     kept_plain (Some at) (Some true) r true rest l h j e = rw (pair_oriented at r h.0, e)
-    kept_plain (Some at) (Some false) r true rest l h j e = absurd (let z : ◌≡◌ {A = ℕ} 0 1 = cc in omega arith)
-    kept_plain (Some at) (Some true) r false rest l h j e = absurd (let z : ◌≡◌ {A = ℕ} 0 1 = cc in omega arith)
+    kept_plain (Some at) (Some false) r true rest l h j e = cc
+    kept_plain (Some at) (Some true) r false rest l h j e = cc
     kept_plain (Some at) (Some false) r false rest l h j e = e
 
     -- what is handed over as it freezes
@@ -261,16 +262,8 @@ module _ (kind : Kind) (asks : Reading → Reading → Bool) where
   if_failed_is AllFailed j = ap (λ (r : Record). fixed r ∷ []) (oriented_buffered kind j)
   if_failed_is SomePassed j = refl
 
-  pub fixeds_append : (a b : List Record) → fixeds (a ++ b) ≡ fixeds a ++ fixeds b
-  fixeds_append [] b = refl
-  fixeds_append (r ∷ a) b = ap (λ (q : List plain_entry). fixed r ∷ q) (fixeds_append a b)
-
-  pub entries_append : (a b : List Entry) → map entry_of (a ++ b) ≡ map entry_of a ++ map entry_of b
-  entries_append [] b = refl
-  entries_append (r ∷ a) b = ap (λ (q : List plain_entry). entry_of r ∷ q) (entries_append a b)
-
   -- the rows whose pairs all failed
   pub failed_are : (j : ℕ) (l : List FilterState) → map entry_of (failed kind j l) ≡ fixeds (failures j (map mark_of l))
   failed_are j [] = refl
-  failed_are j (s ∷ l) = entries_append (if_failed s j kind) (failed kind (suc j) l) ∙ ap (λ (q : List plain_entry). q ++ map entry_of (failed kind (suc j) l)) (if_failed_is s j) ∙ ap (λ (q : List plain_entry). fixeds (when (is_failing (mark_of s)) (RightAlone j ∷ [])) ++ q) (failed_are (suc j) l)
-      ∙ sym (fixeds_append (when (is_failing (mark_of s)) (RightAlone j ∷ [])) (failures (suc j) (map mark_of l)))
+  failed_are j (s ∷ l) = map-append entry_of (if_failed s j kind) (failed kind (suc j) l) ∙ ap (λ (q : List plain_entry). q ++ map entry_of (failed kind (suc j) l)) (if_failed_is s j) ∙ ap (λ (q : List plain_entry). fixeds (when (is_failing (mark_of s)) (RightAlone j ∷ [])) ++ q) (failed_are (suc j) l)
+      ∙ sym (map-append fixed (when (is_failing (mark_of s)) (RightAlone j ∷ [])) (failures (suc j) (map mark_of l)))

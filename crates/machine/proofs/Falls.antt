@@ -1,12 +1,12 @@
 -- The weight falls with every small step that goes on, and the measure with every step and every record handed over.
-use Rattle.std.proofs.Common.{◌≡◌, ℕ, zero, suc, ◌+◌, ◌-◌, ◌*◌, ◌<◌, ◌≤◌, Bool, true, false, cond, ◌&&◌, ltb, leb, List, [], ◌∷◌, length, take, drop, Some, None, Ok, Option, Ordering, Less, Equal, Greater, refl, ap, ◌∙◌, subst, mul-le-mul_left, mul-suc, arith, length-drop, length-take}
+use Rattle.std.proofs.Common.{◌≡◌, ℕ, zero, suc, ◌+◌, ◌-◌, ◌*◌, ◌<◌, ◌≤◌, Bool, true, false, cond, ◌&&◌, ltb, leb, List, [], ◌∷◌, length, take, drop, Some, None, Err, Ok, Option, Ordering, Less, Equal, Greater, refl, ap, ◌∙◌, subst, mul-le-mul_left, mul-suc, arith, length-drop, length-take}
 use Rattle.std.proofs.lemmas.Bool.{ltb-true, lt-ltb, le-ltb, lt-leb, cond-true, cond-false}
+use Rattle.std.proofs.lemmas.Option.{slice_get_within}
 use Rattle.rows.specs.Order.{is_same}
 use Rattle.rows.specs.declared.record.Record.{Record}
 use Rattle.rows.specs.declared.row.Row.{Row}
-use Rattle.sources.specs.declared.source.Closing.{Closing}
-use Rattle.sources.specs.declared.source.Closing.TheVariants.{End as ended, Fault as faulted}
-use Rattle.merge.specs.Sides.{is_outer}
+use Rattle.sources.specs.Meaning.{Closing}
+use Rattle.rows.specs.Sides.{is_outer}
 use Rattle.pipeline.specs.declared.batch.BufferedBatch.{BufferedBatch}
 use Rattle.pipeline.specs.declared.entry.Entry.{Entry}
 use Rattle.pipeline.specs.Block.{Queued, pushed, freeze}
@@ -22,13 +22,8 @@ use Rattle.machine.specs.Weight.{Sane, due_of, rows_within, any_of, anew, run_ro
 
 at_most_length : {A : Type 0} (n : ℕ) (l : List A) → row_at n l ≡ None → length l ≤ n
 at_most_length n [] e = omega arith
-at_most_length zero (x ∷ l) e = absurd (let z : ◌≡◌ {A = ℕ} 0 1 = cc in omega arith)
+at_most_length zero (x ∷ l) e = cc
 at_most_length (suc n) (x ∷ l) e = omega (arith, at_most_length n l e)
-
-below_length : {A : Type 0} (n : ℕ) (l : List A) (x : A) → row_at n l ≡ Some x → n < length l
-below_length n [] y e = absurd (let z : ◌≡◌ {A = ℕ} 0 1 = cc in omega arith)
-below_length zero (x ∷ l) y e = omega arith
-below_length (suc n) (x ∷ l) y e = omega (arith, below_length n l y e)
 
 same_run_short : {K : Type 0} (within : K → K → Ordering) (k : K) (l : List (Row K)) → same_run within k l ≤ length l
 same_run_short within k [] = omega arith
@@ -85,9 +80,9 @@ module _ {K : Type 0} (c : Setting K) where
       taken false (x ∷ es) r l u e = omega (arith, ap any_of u, ap any_of (let_go_unfrozen (deferred c) (freeze c.asks q)))
 
       go : (first : Bool) (l : List (List (Row K))) (e : Closing) → st.batches ≡ l → Below (weight_in c (fetching first) st bf q) (fetch_from c first l e st bf q n)
-      go true [] ended e = omega arith
-      go false [] ended e = omega arith
-      go first [] (faulted f) e = tt
+      go true [] (Ok end) e = omega arith
+      go false [] (Ok end) e = omega arith
+      go first [] (Err f) e = tt
       go true ([] ∷ l) z e = omega (arith, ap length e)
       go false ([] ∷ l) z e = omega (arith, ap length e)
       go first ((x ∷ r) ∷ l) z e =
@@ -104,8 +99,8 @@ module _ {K : Type 0} (c : Setting K) where
       checked (Some k) r l e = tt
 
       go : (l : List (List (Row K))) (z : Closing) → bf.batches ≡ l → Below w (load_from c over ph l z st bf q n)
-      go [] ended e = o
-      go [] (faulted f) e = tt
+      go [] (Ok end) e = o
+      go [] (Err f) e = tt
       go ([] ∷ l) z e = h (passed_over c l bf) (omega (arith, ap length e)) (omega (arith, ap rows_within e)) refl (omega arith)
       go ((x ∷ r) ∷ l) z e =
           below_cond w (leb (buffered_read bf + length (x ∷ r)) most_rows) _ _
@@ -133,7 +128,7 @@ module _ {K : Type 0} (c : Setting K) where
       go false None e = omega (arith, anew_past bf (omega (arith, at_most_length bf.holding.start bf.rows e)))
       go first (Some y) e =
           on first (same_run c.within y.key (drop bf.holding.end bf.rows)) (omega (arith, same_run_short c.within y.key (drop bf.holding.end bf.rows), length-drop bf.holding.end bf.rows))
-          (omega (arith, below_length bf.holding.start bf.rows y e))
+          (omega (arith, slice_get_within bf.rows bf.holding.start y e))
 
   -- freezing keeps the phase, and the batches in the sources
   full_falls : (w : ℕ) (ph : Phase K) (st : Streamed K) (bf : Buffered K) (q : Queued) (n : Counts) → ((bf : Buffered K) (q : Queued) → weight_in c ph st bf q < w) → Below w (freeze_full c ph st bf q n)
@@ -219,11 +214,11 @@ module _ {K V : Type 0} (c : Setting K) (fits : V → Record → Bool) (after : 
     where
       stepped : (o : Outcome K) → step c ph st bf q n ≡ o → moved c fits after o v ≡ goes s' v' → (step c ph st bf q n ≡ going s') × (v' ≡ v)
       stepped (going t) k e = (cc, cc)
-      stepped (answered a t) k e = absurd (let z : ◌≡◌ {A = ℕ} 0 1 = cc in omega arith)
+      stepped (answered a t) k e = cc
 
       fitted : (t : Bool) (x : Record) (l : List Record) → cond t (hands_over x (core st bf (handed c fits after l q) (counted_record n) ph) (after v x)) (says (Ok Waiting) (core st bf q n ph) v) ≡ goes s' v' → ⊥
-      fitted true x l e = let z : ◌≡◌ {A = ℕ} 0 1 = cc in omega arith
-      fitted false x l e = let z : ◌≡◌ {A = ℕ} 0 1 = cc in omega arith
+      fitted true x l e = cc
+      fitted false x l e = cc
 
       due : (l : List Record) → q.due ≡ l → micro_due c fits after l st bf q n ph v ≡ goes s' v' → GoesOn (core st bf q n ph) v s' v'
       due [] d e = let h = stepped (step c ph st bf q n) refl e in record { nothing_due = d; steps_on = h.0; same_sink = h.1 }
@@ -255,8 +250,8 @@ module _ {K V : Type 0} (c : Setting K) (fits : V → Record → Bool) (after : 
   when_hands (core st bf q n ph) s' v v' x e = due q.due refl e
     where
       stepped : (o : Outcome K) → moved c fits after o v ≡ hands_over x s' v' → ⊥
-      stepped (going t) e = let z : ◌≡◌ {A = ℕ} 0 1 = cc in omega arith
-      stepped (answered a t) e = let z : ◌≡◌ {A = ℕ} 0 1 = cc in omega arith
+      stepped (going t) e = cc
+      stepped (answered a t) e = cc
 
       fitted : (t : Bool) (y : Record) (l : List Record) → q.due ≡ y ∷ l → fits v y ≡ t → cond t (hands_over y (core st bf (handed c fits after l q) (counted_record n) ph) (after v y)) (says (Ok Waiting) (core st bf q n ph) v) ≡ hands_over x s' v' → HandsOne (core st bf q n ph) v x s' v'
       fitted true y l d f e =
@@ -264,7 +259,7 @@ module _ {K V : Type 0} (c : Setting K) (fits : V → Record → Bool) (after : 
           let yx : y ≡ x = cc in
           let rest : due_of s' ≡ l = ap due_of same in
           record { first_due = cc; fits_in = cc; sink_after = cc; same_weight = ap (weight c) same ∙ due_weighs_nothing l st bf q ph }
-      fitted false y l d f e = absurd (let z : ◌≡◌ {A = ℕ} 0 1 = cc in omega arith)
+      fitted false y l d f e = cc
 
       due : (l : List Record) → q.due ≡ l → micro_due c fits after l st bf q n ph v ≡ hands_over x s' v' → HandsOne (core st bf q n ph) v x s' v'
       due [] d e = absurd (stepped (step c ph st bf q n) e)

@@ -1,7 +1,8 @@
 -- The plain machine follows each small step of a join: what follows means, and the steps of a turn on its rows.
-use Rattle.std.proofs.Common.{◌≡◌, ℕ, zero, suc, ◌+◌, ◌-◌, ◌<◌, ◌≤◌, Bool, true, false, cond, ◌&&◌, ltb, leb, List, [], ◌∷◌, ◌++◌, map, length, take, drop, Some, None, Option, sym, refl, ap, ◌∙◌, subst, append_assoc, add-one, arith, length-append, length-drop, length-take}
+use Rattle.std.proofs.Common.{◌≡◌, ℕ, zero, suc, ◌+◌, ◌-◌, ◌<◌, ◌≤◌, Bool, true, false, cond, ◌&&◌, ltb, leb, List, [], ◌∷◌, ◌++◌, map, length, take, drop, Some, None, Option, sym, refl, ap, ◌∙◌, subst, append_assoc, add-one, arith, length-append, length-drop, length-take, drop-drop, take-append-drop}
 use mathlib.Core.List.{nil≢cons}
 use lib.ListN.{length-map}
+use Rattle.std.proofs.lemmas.List.{map-append}
 use Rattle.std.specs.List.{AllByRecursion}
 use Rattle.std.proofs.ByRecursion.{All-append}
 use Rattle.std.proofs.lemmas.Bool.{leb-false, ltb-false, lt-leb, lt-ltb, le-ltb, cond_both}
@@ -11,8 +12,8 @@ use Rattle.rows.specs.declared.reading.Reading.{Reading}
 use Rattle.rows.specs.declared.record.Record.{Record}
 use Rattle.rows.specs.declared.row.Row.{Row}
 use Rattle.sources.specs.declared.fault.SourceFault.{SourceFault}
-use Rattle.merge.specs.Sides.{oriented}
-use Rattle.merge.specs.Sides.{left_of as left_side, right_of as right_side}
+use Rattle.rows.specs.Sides.{oriented}
+use Rattle.rows.specs.Sides.{left_of as left_side, right_of as right_side}
 use Rattle.law.specs.Pipe.{Mark, Pipe, pipe, judged, fixed}
 use Rattle.law.specs.Pipe.{Entry as plain_entry, freeze_full as plain_freeze_full, freeze_all as plain_freeze_all, flush as plain_flush}
 use Rattle.law.specs.Machine as plain_machine
@@ -26,8 +27,8 @@ use Rattle.pipeline.specs.Block.{Queued, pushed}
 use Rattle.pipeline.specs.Held.{pairs_with, matching}
 use Rattle.machine.specs.Machine.{Setting, Phase, fetching, closing, turning, passing, pairing, Streamed, Buffered, Counts, Core, core, Outcome, deferred, marked_by, freeze_full, pair_row, lone_row, row_at, place, pass_row, next_row, close, go_on, with_holding, counted_row}
 use Rattle.machine.specs.Machine.{going as goes, answered as says}
-use Rattle.machine.proofs.Entries.{mark_of, entry_of, place_of, Made, Frozen, Noted, oriented_streamed, place_of_pair, entries_append, length_marking}
-use Rattle.machine.proofs.Plain.{answer_of, closing_of, row_of, Placed, phase_of, streamed_of, buffered_of, counts_of, plain_setting, pipe_of, state_at, state_of, Whole, WholeStreamed, WholeBuffered, Poised}
+use Rattle.machine.proofs.Entries.{mark_of, entry_of, place_of, Made, Frozen, Noted, oriented_streamed, place_of_pair, length_marking}
+use Rattle.machine.proofs.Plain.{answer_of, row_of, Placed, phase_of, streamed_of, buffered_of, counts_of, plain_setting, pipe_of, state_at, state_of, Whole, WholeStreamed, WholeBuffered, Poised}
 use Rattle.machine.proofs.Block.{block, all_frozen_is, all_frozen_are, let_go_whole, flushed_is, flush_whole}
 
 -- the sides of readings by either definition
@@ -53,14 +54,14 @@ not_full size unfrozen e h = lt-leb _ _ (omega (arith, length-append unfrozen (e
 
 -- the row at an index
 pub row_some : {A : Type 0} (n : ℕ) (l : List A) (x : A) → row_at n l ≡ Some x → (drop n l ≡ x ∷ drop (suc n) l) × (n < length l)
-row_some n [] x e = absurd (let z : ◌≡◌ {A = ℕ} 0 1 = cc in omega arith)
+row_some n [] x e = cc
 row_some zero (y ∷ l) x e = (let z : y ≡ x = cc in ap (λ (w : _). w ∷ l) z, omega arith)
 row_some (suc n) (y ∷ l) x e = let k = row_some n l x e in (k.0, omega (arith, k.1))
 
 pub row_none : {A : Type 0} (n : ℕ) (l : List A) → row_at n l ≡ None → drop n l ≡ []
 row_none zero [] e = refl
 row_none (suc n) [] e = refl
-row_none zero (y ∷ l) e = absurd (let z : ◌≡◌ {A = ℕ} 0 1 = cc in omega arith)
+row_none zero (y ∷ l) e = cc
 row_none (suc n) (y ∷ l) e = row_none n l e
 
 module _ {X F V : Type 0} (p : plain_machine.Setting X V) where
@@ -179,9 +180,7 @@ module _ {K V : Type 0} (c : Setting K) (fits : V → Record → Bool) (after : 
   pairs_made at h r (p ∷ l) = ((ap (paired c.kind (at.batch + at.row)) (sym (place_of_pair c.kind (at.batch + at.row) p.0)), h), pairs_made at h r l)
 
   map_split : (n : ℕ) (l : List (ℕ × Row K)) → map row_of l ≡ map row_of (take n l) ++ map row_of (drop n l)
-  map_split zero l = refl
-  map_split (suc n) [] = refl
-  map_split (suc n) (p ∷ l) = ap (λ (w : List (Row K)). p.1 ∷ w) (map_split n l)
+  map_split n l = ap (map row_of) (sym (take-append-drop n l)) ∙ map-append row_of (take n l) (drop n l)
 
   pub follows_pair : (o : Option (Row K)) (todo : List (ℕ × Row K)) (st : Streamed K) (bf : Buffered K) (q : Queued) (n : Counts) (v : V) → row_at st.at st.rows ≡ o → (drop st.at st.rows ≡ [] → ⊥) → q.due ≡ []
       → Whole c batch_of st bf q (pairing todo) → Followed (state_at c st bf q n (pairing todo) v) v (pair_row c o todo st bf q n)
@@ -199,10 +198,10 @@ module _ {K V : Type 0} (c : Setting K) (fits : V → Record → Bool) (after : 
       start = (bf.holding.base + bf.holding.end) - length (p ∷ todo)
 
       at_rows : List (Row K) → List (Row K) → PlainState
-      at_rows r td = plain_machine.state (plain_machine.streamed st.batches (closing_of st.closing) r (st.first + st.at) st.ended st.last) (buffered_of bf) (pipe_of c bf.holding.base bf.states q) (counts_of n) v (plain_machine.pairing td start)
+      at_rows r td = plain_machine.state (plain_machine.streamed st.batches st.closing r (st.first + st.at) st.ended st.last) (buffered_of bf) (pipe_of c bf.holding.base bf.states q) (counts_of n) v (plain_machine.pairing td start)
 
       then_rows : List (Row K) → List plain_entry → List (Row K) → ℕ → PlainState
-      then_rows r u td k = plain_machine.state (plain_machine.streamed st.batches (closing_of st.closing) r (st.first + st.at) st.ended st.last) (buffered_of bf)
+      then_rows r u td k = plain_machine.state (plain_machine.streamed st.batches st.closing r (st.first + st.at) st.ended st.last) (buffered_of bf)
           (plain_freeze_full (deferred c) c.size (pipe bf.holding.base (map mark_of bf.states) (map (place_of c.kind c.asks) q.noted) u (map (entry_of c.kind c.asks) q.frozen) (map (oriented c.kind) q.due))) (counts_of n) v (plain_machine.pairing td k)
 
       go : (room : ℕ) → c.size - length q.unfrozen ≡ room → Followed (state_at c st bf q n (pairing (p ∷ todo)) v) v (freeze_full c (pairing (drop room (p ∷ todo))) st bf (pushed (pairs_with c.kind at (place c st) x.reading (take room (p ∷ todo))) q) n)
@@ -213,7 +212,7 @@ module _ {K V : Type 0} (c : Setting K) (fits : V → Record → Bool) (after : 
           let more : List Entry = pairs_with c.kind at (place c st) x.reading (take (suc m) (p ∷ todo)) in
           let unfrozen = map (entry_of c.kind c.asks) q.unfrozen in
           let t = w.poised.2 in
-          let w₁ = walk_pairs plain st.batches (closing_of st.closing) x (drop (suc st.at) st.rows) (st.first + st.at) st.ended st.last (buffered_of bf) bf.holding.base (map mark_of bf.states) (map (place_of c.kind c.asks) q.noted) unfrozen
+          let w₁ = walk_pairs plain st.batches st.closing x (drop (suc st.at) st.rows) (st.first + st.at) st.ended st.last (buffered_of bf) bf.holding.base (map mark_of bf.states) (map (place_of c.kind c.asks) q.noted) unfrozen
           (map (entry_of c.kind c.asks) q.frozen) (map (oriented c.kind) q.due) (counts_of n) v p.1 (map row_of (take m todo)) (map row_of (drop m todo)) start (ap (map (oriented c.kind)) z)
           (omega (arith, length-map q.unfrozen (entry_of c.kind c.asks), length-map (take m todo) row_of, length-take m todo)) in
           follows_full (pairing (drop m todo)) st bf q.noted (q.unfrozen ++ more) q.frozen q.due n v _
@@ -221,7 +220,7 @@ module _ {K V : Type 0} (c : Setting K) (fits : V → Record → Bool) (after : 
           (walk_from plain w₁ (ap (λ (r : List (Row K)). at_rows r ((p.1 ∷ map row_of (take m todo)) ++ map row_of (drop m todo))) (sym rs.0) ∙ ap (at_rows (drop st.at st.rows)) (sym (map_split (suc m) (p ∷ todo)))))
           (ap (λ (r : List (Row K)). then_rows r (unfrozen ++ judgeds plain (st.first + st.at) x start (p.1 ∷ map row_of (take m todo))) (map row_of (drop m todo)) (start + length (p.1 ∷ map row_of (take m todo)))) (sym rs.0)
           ∙ ap (λ (u : List plain_entry). then_rows (drop st.at st.rows) u (map row_of (drop m todo)) (start + length (p.1 ∷ map row_of (take m todo))))
-          (ap (λ (l : List plain_entry). unfrozen ++ l) (sym (pairs_are (st.first + st.at) at refl x start (take (suc m) (p ∷ todo)) (take_placed start (suc m) (p ∷ todo) t.are))) ∙ sym (entries_append c.kind c.asks q.unfrozen more))
+          (ap (λ (l : List plain_entry). unfrozen ++ l) (sym (pairs_are (st.first + st.at) at refl x start (take (suc m) (p ∷ todo)) (take_placed start (suc m) (p ∷ todo) t.are))) ∙ sym (map-append (entry_of c.kind c.asks) q.unfrozen more))
           ∙ ap (then_rows (drop st.at st.rows) (map (entry_of c.kind c.asks) (q.unfrozen ++ more)) (map row_of (drop m todo))) (omega (arith, length-map (take m todo) row_of, length-take m todo, length-drop m todo, t.in_run))))
           z
           (All-append _ q.unfrozen more w.block.made (pairs_made at (sym here) x.reading (take (suc m) (p ∷ todo))))
@@ -236,17 +235,14 @@ module _ {K V : Type 0} (c : Setting K) (fits : V → Record → Bool) (after : 
   follows_lone true st bf q n v s w z h =
       follows_full passing st bf q.noted (q.unfrozen ++ lone (streamed_alone c.kind (st.first + st.at)) ∷ []) q.frozen q.due n v s
       (walk_to plain w (ap (λ (l : List plain_entry). plain_machine.state (streamed_of st) (buffered_of bf) (plain_freeze_full (deferred c) c.size (pipe bf.holding.base (map mark_of bf.states) (map (place_of c.kind c.asks) q.noted) l (map (entry_of c.kind c.asks) q.frozen) (map (oriented c.kind) q.due))) (counts_of n) v plain_machine.passing)
-      (ap (λ (r : Record). map (entry_of c.kind c.asks) q.unfrozen ++ fixed r ∷ []) (sym (oriented_streamed c.kind (st.first + st.at))) ∙ sym (entries_append c.kind c.asks q.unfrozen (lone (streamed_alone c.kind (st.first + st.at)) ∷ [])))))
+      (ap (λ (r : Record). map (entry_of c.kind c.asks) q.unfrozen ++ fixed r ∷ []) (sym (oriented_streamed c.kind (st.first + st.at))) ∙ sym (map-append (entry_of c.kind c.asks) q.unfrozen (lone (streamed_alone c.kind (st.first + st.at)) ∷ [])))))
       z (All-append _ q.unfrozen _ h.block.made (refl, tt)) h.block.frozen h.block.noted h.block.behind h.block.at_once h.streamed_side h.buffered_side h.poised
   follows_lone false st bf q n v s w z h = (w, record { streamed_side = h.streamed_side; buffered_side = h.buffered_side; block = h.block; poised = h.poised })
 
   -- ---- the row is passed
 
   pub next_drop : {A : Type 0} (n : ℕ) (l : List A) (x : A) (r : List A) → drop n l ≡ x ∷ r → drop (n + 1) l ≡ r
-  next_drop zero [] x r e = absurd (nil≢cons e)
-  next_drop (suc n) [] x r e = absurd (nil≢cons e)
-  next_drop zero (y ∷ l) x r e = cc
-  next_drop (suc n) (y ∷ l) x r e = rw add-one (rw add-one at (next_drop n l x r e))
+  next_drop n l x r e = sym (drop-drop 1 n l) ∙ ap (drop 1) e
 
   after_is : (kind : Kind) (to n : ℕ) (l : List (Row K)) → plain_machine.after_row plain (drop n l) ≡ phase_of {K = K} kind to (cond (ltb n (length l)) (closing false) (fetching false))
   after_is kind to n l = go (drop n l) refl
@@ -259,7 +255,7 @@ module _ {K V : Type 0} (c : Setting K) (fits : V → Record → Bool) (after : 
   follows_pass st bf q n v s en z w = go (drop st.at st.rows) refl
     where
       on : List (Row K) → ℕ → plain_machine.Phase (Row K) SourceFault → plain_machine.Outcome (Row K) SourceFault V
-      on l k ph = going (plain_machine.state (plain_machine.streamed st.batches (closing_of st.closing) l k st.ended st.last) (buffered_of bf) (pipe_of c bf.holding.base bf.states q) (counts_of (counted_row n)) v ph)
+      on l k ph = going (plain_machine.state (plain_machine.streamed st.batches st.closing l k st.ended st.last) (buffered_of bf) (pipe_of c bf.holding.base bf.states q) (counts_of (counted_row n)) v ph)
 
       go : (r : List (Row K)) → drop st.at st.rows ≡ r → Followed (state_at c st bf q n passing v) v (pass_row c st bf q n)
       go [] e = absurd (s e)
@@ -267,7 +263,7 @@ module _ {K V : Type 0} (c : Setting K) (fits : V → Record → Bool) (after : 
           let inside : st.at < length st.rows = omega (arith, length-drop st.at st.rows, ap length e) in
           rw (lt-ltb _ _ inside) (
             walk (calm plain _ _ _ _ _ _ _ (map (oriented c.kind) q.due) _ v _ (ap (map (oriented c.kind)) z)
-                ∙ ap (λ (l : List (Row K)). plain_machine.pass plain (plain_machine.streamed st.batches (closing_of st.closing) l (st.first + st.at) st.ended st.last) (buffered_of bf) (pipe_of c bf.holding.base bf.states q) (counts_of n) v) e
+                ∙ ap (λ (l : List (Row K)). plain_machine.pass plain (plain_machine.streamed st.batches st.closing l (st.first + st.at) st.ended st.last) (buffered_of bf) (pipe_of c bf.holding.base bf.states q) (counts_of n) v) e
                 ∙ ap (λ (l : List (Row K)). on l (suc (st.first + st.at)) (plain_machine.after_row plain l)) (sym (next_drop st.at st.rows x r e))
                 ∙ ap (λ (k : ℕ). on (drop (st.at + 1) st.rows) k (plain_machine.after_row plain (drop (st.at + 1) st.rows))) (omega arith)
                 ∙ ap (on (drop (st.at + 1) st.rows) (st.first + (st.at + 1))) (after_is c.kind (bf.holding.base + bf.holding.end) (st.at + 1) st.rows)) stay,

@@ -1,13 +1,13 @@
 -- The plain machine follows the seed of a run and its growth.
-use Rattle.std.proofs.Common.{◌≡◌, ℕ, zero, suc, ◌+◌, ◌-◌, ◌<◌, ◌≤◌, min, Bool, true, false, ltb, List, [], ◌∷◌, ◌++◌, map, length, take, drop, Some, None, Option, sym, refl, ap, ◌∙◌, subst, true≢false, arith, length-append, length-drop, drop-drop, take-add}
+use Rattle.std.proofs.Common.{◌≡◌, ℕ, zero, suc, ◌+◌, ◌-◌, ◌<◌, ◌≤◌, min, Bool, true, false, ltb, List, [], ◌∷◌, ◌++◌, map, length, take, drop, Some, None, Ok, Option, sym, refl, ap, ◌∙◌, subst, true≢false, arith, length-append, length-drop, drop-drop, take-add}
 use Rattle.std.proofs.lemmas.List.{drop_all}
 use Rattle.std.proofs.lemmas.Bool.{ltb-true, ltb-false}
 use Rattle.rows.specs.declared.record.Record.{Record}
 use Rattle.rows.specs.declared.row.Row.{Row}
 use Rattle.rows.specs.Order.{is_same}
 use Rattle.sources.specs.declared.fault.SourceFault.{SourceFault}
-use Rattle.sources.specs.declared.source.Closing.{Closing}
-use Rattle.merge.specs.Sides.{oriented}
+use Rattle.sources.specs.Meaning.{Closing}
+use Rattle.rows.specs.Sides.{oriented}
 use Rattle.law.specs.Pipe.{Pipe}
 use Rattle.law.specs.Machine as plain_machine
 use Rattle.law.specs.Machine.{going}
@@ -18,7 +18,7 @@ use Rattle.pipeline.specs.Block.{Queued}
 use Rattle.pipeline.specs.Held.{Holding, on_last, longer, begun, extended, seeded, same_run, most_end}
 use Rattle.machine.specs.Machine.{Setting, seeding, extending, closing, Streamed, Buffered, Counts, core, Outcome, load, seed, extend, extend_from, with_holding, no_more, row_at, most_rows}
 use Rattle.machine.specs.Machine.{going as goes}
-use Rattle.machine.proofs.Plain.{closing_of, streamed_of, buffered_of, run_of, counts_of, plain_setting, pipe_of, state_at, size_of, Whole, WholeBuffered, WholeBlock, Drained, Growing, reach, FullButLast, first_start, first_rows}
+use Rattle.machine.proofs.Plain.{streamed_of, buffered_of, run_of, counts_of, plain_setting, pipe_of, state_at, size_of, Whole, WholeBuffered, WholeBlock, Drained, Growing, reach, FullButLast, first_start, first_rows}
 use Rattle.machine.proofs.Follows.{Walk, stay, walk, walk_to, walk_from, calm, PlainState, Followed, followed_cond, row_some, row_none, next_drop}
 use Rattle.machine.proofs.Load.{sizes_on_last, rows_on_last, full_longer, reach_longer, start_longer, start_push, rows_longer, first_push, same_few, same_ends, follow_after, walk_run, follows_load}
 
@@ -74,10 +74,10 @@ module _ {K V : Type 0} (c : Setting K) (fits : V → Record → Bool) (after : 
       stepped = calm plain _ _ _ _ _ _ _ (map (oriented c.kind) q.due) _ v _ (ap (map (oriented c.kind)) z)
 
       seed_at : List (Row K) → plain_machine.Outcome (Row K) SourceFault V
-      seed_at beyond = plain_machine.seed plain first (streamed_of st) (plain_machine.buffered l (closing_of e) sizes (h.base + h.start) (take (h.end - h.start) (drop h.start rows)) beyond false h.matched last) p (counts_of n) v
+      seed_at beyond = plain_machine.seed plain first (streamed_of st) (plain_machine.buffered l e sizes (h.base + h.start) (take (h.end - h.start) (drop h.start rows)) beyond false h.matched last) p (counts_of n) v
 
       begun_at : List ℕ → ℕ → List (Row K) → List (Row K) → plain_machine.Outcome (Row K) SourceFault V
-      begun_at sz f run beyond = going (plain_machine.state (streamed_of st) (plain_machine.buffered l (closing_of e) sz f run beyond false false last) p (counts_of n) v (plain_machine.extending first))
+      begun_at sz f run beyond = going (plain_machine.state (streamed_of st) (plain_machine.buffered l e sz f run beyond false false last) p (counts_of n) v (plain_machine.extending first))
 
       begins : (beyond : List (Row K)) → drop h.end rows ≡ beyond → h.end < h.held → Follow s v (goes (core st (with_holding c (seeded h) (side l e h rows states false last)) q n (extending first)))
       begins [] k lt = absurd (omega (arith, length-drop h.end rows, ap length k, b.rows_held))
@@ -115,17 +115,17 @@ module _ {K V : Type 0} (c : Setting K) (fits : V → Record → Bool) (after : 
           least m e k = omega arith
 
       load_at : List (Row K) → Bool → plain_machine.Outcome (Row K) SourceFault V
-      load_at run m = plain_machine.load plain at_end (plain_machine.seeding first) (streamed_of st) l (closing_of e) sizes (h.base + h.start) run m last p (counts_of n) v
+      load_at run m = plain_machine.load plain at_end (plain_machine.seeding first) (streamed_of st) l e sizes (h.base + h.start) run m last p (counts_of n) v
         where
           at_end : plain_machine.Outcome (Row K) SourceFault V
-          at_end = going (plain_machine.state (streamed_of st) (plain_machine.buffered [] plain_machine.ended sizes (h.base + h.start) [] [] true false last) p (counts_of n) v (plain_machine.closing first))
+          at_end = going (plain_machine.state (streamed_of st) (plain_machine.buffered [] (Ok tt) sizes (h.base + h.start) [] [] true false last) p (counts_of n) v (plain_machine.closing first))
 
       loads : h.held ≤ h.end → Follow s v (load c (goes (core st (no_more c (side l e h rows states false last)) q n (closing first))) (seeding first) st (side l e h rows states false last) q n)
       loads le =
           let all : h.end ≡ h.held = omega (arith, b.in_held) in
           let none_here : take (h.end - h.start) (drop h.start rows) ≡ [] = ap (λ (m : ℕ). take m (drop h.start rows)) zero_left in
           let none_past : drop h.end rows ≡ [] = drop_all h.end rows (omega (arith, b.rows_held)) in
-          let ends : plain_machine.Outcome (Row K) SourceFault V = going (plain_machine.state (streamed_of st) (plain_machine.buffered [] plain_machine.ended sizes (h.base + h.start) [] [] true false last) p (counts_of n) v (plain_machine.closing first)) in
+          let ends : plain_machine.Outcome (Row K) SourceFault V = going (plain_machine.state (streamed_of st) (plain_machine.buffered [] (Ok tt) sizes (h.base + h.start) [] [] true false last) p (counts_of n) v (plain_machine.closing first)) in
           follows_load c fits after batch_of sized h rows states last (seeding first) st q n v s
           (record {
             streamed_side = w.streamed_side;
@@ -139,18 +139,18 @@ module _ {K V : Type 0} (c : Setting K) (fits : V → Record → Bool) (after : 
           (stepped ∙ ap seed_at none_past ∙ ap (λ (m : List (Row K)). load_at m false) (sym none_here) ∙ ap (load_at (take (h.end - h.start) (drop h.start rows))) (sym d.unmatched))
           (λ el ee m. (
             walk (m
-                ∙ ap (λ (a : List (Row K)). ended_at [] plain_machine.ended a [] false) (sym none_here)
-                ∙ ap (λ (a : List (Row K)). ended_at [] plain_machine.ended (take (h.end - h.start) (drop h.start rows)) a false) (sym none_past)
-                ∙ ap (ended_at [] plain_machine.ended (take (h.end - h.start) (drop h.start rows)) (drop h.end rows)) (sym d.unmatched)
-                ∙ ap (λ (a : List (List (Row K))). ended_at a plain_machine.ended (take (h.end - h.start) (drop h.start rows)) (drop h.end rows) h.matched) (sym el)
-                ∙ ap (λ (a : Closing). ended_at l (closing_of a) (take (h.end - h.start) (drop h.start rows)) (drop h.end rows) h.matched) (sym ee)) stay,
+                ∙ ap (λ (a : List (Row K)). ended_at [] (Ok tt) a [] false) (sym none_here)
+                ∙ ap (λ (a : List (Row K)). ended_at [] (Ok tt) (take (h.end - h.start) (drop h.start rows)) a false) (sym none_past)
+                ∙ ap (ended_at [] (Ok tt) (take (h.end - h.start) (drop h.start rows)) (drop h.end rows)) (sym d.unmatched)
+                ∙ ap (λ (a : List (List (Row K))). ended_at a (Ok tt) (take (h.end - h.start) (drop h.start rows)) (drop h.end rows) h.matched) (sym el)
+                ∙ ap (λ (a : Closing). ended_at l a (take (h.end - h.start) (drop h.start rows)) (drop h.end rows) h.matched) (sym ee)) stay,
             record { streamed_side = w.streamed_side; buffered_side = side_whole (side l e h rows states false last) b l e true; block = w.block; poised = (w.poised.0, λ lt. absurd (omega (arith, d.none, lt))) },
           ))
         where
           zero_left : h.end - h.start ≡ zero
           zero_left = omega (arith, d.none)
 
-          ended_at : List (List (Row K)) → plain_machine.Closing SourceFault → List (Row K) → List (Row K) → Bool → plain_machine.Outcome (Row K) SourceFault V
+          ended_at : List (List (Row K)) → Closing → List (Row K) → List (Row K) → Bool → plain_machine.Outcome (Row K) SourceFault V
           ended_at bl be run beyond m = going (plain_machine.state (streamed_of st) (plain_machine.buffered bl be sizes (h.base + h.start) run beyond true m last) p (counts_of n) v (plain_machine.closing first))
 
   pub follows_seed : (first : Bool) (st : Streamed K) (bf : Buffered K) (q : Queued) (n : Counts) (v : V) → q.due ≡ [] → Whole c batch_of st bf q (seeding first) → Follow (state_at c st bf q n (seeding first) v) v (seed c first st bf q n)
@@ -193,7 +193,7 @@ module _ {K V : Type 0} (c : Setting K) (fits : V → Record → Bool) (after : 
         }
 
     abbrev at_sides : List ℕ → List (Row K) → List (Row K) → State
-    at_sides sz run beyond = plain_machine.state (streamed_of st) (plain_machine.buffered l (closing_of e) sz (h.base + h.start) run beyond false h.matched last) (pipe_of c h.base states q) (counts_of n) v (plain_machine.extending first)
+    at_sides sz run beyond = plain_machine.state (streamed_of st) (plain_machine.buffered l e sz (h.base + h.start) run beyond false h.matched last) (pipe_of c h.base states q) (counts_of n) v (plain_machine.extending first)
 
     -- the rows of the run that stand behind the first
     tail_of : WholeBuffered c before → Growing h false → row_at h.start rows ≡ Some y → (r : List (Row K)) × (take (h.end - h.start) (drop h.start rows) ≡ y ∷ r)
@@ -215,7 +215,7 @@ module _ {K V : Type 0} (c : Setting K) (fits : V → Record → Bool) (after : 
     walks b g a =
         let t = tail_of b g a in
         walk_to plain
-        (walk_from plain (walk_run c fits after batch_of sized (streamed_of st) l (closing_of e) (map size_of h.batches) (h.base + h.start) y t.0 (drop h.end rows) false h.matched last _ _ _ _ _ (map (oriented c.kind) q.due) (counts_of n) v first (ap (map (oriented c.kind)) z))
+        (walk_from plain (walk_run c fits after batch_of sized (streamed_of st) l e (map size_of h.batches) (h.base + h.start) y t.0 (drop h.end rows) false h.matched last _ _ _ _ _ (map (oriented c.kind) q.due) (counts_of n) v first (ap (map (oriented c.kind)) z))
         (ap (λ (r : List (Row K)). at_sides (map size_of h.batches) r (drop h.end rows)) (sym t.1)))
         (ap (λ (r : List (Row K)). at_sides (map size_of h.batches) (r ++ take more (drop h.end rows)) (drop more (drop h.end rows))) (sym t.1)
         ∙ ap (λ (r : List (Row K)). at_sides (map size_of h.batches) r (drop more (drop h.end rows))) (sym (longer_run b))
@@ -229,21 +229,21 @@ module _ {K V : Type 0} (c : Setting K) (fits : V → Record → Bool) (after : 
     stepped = calm plain _ _ _ _ _ _ _ (map (oriented c.kind) q.due) _ v _ (ap (map (oriented c.kind)) z)
 
     abbrev extend_at : List (Row K) → List (Row K) → plain_machine.Outcome (Row K) SourceFault V
-    extend_at run beyond = plain_machine.extend plain first (streamed_of st) (plain_machine.buffered l (closing_of e) (map size_of grown.batches) (h.base + h.start) run beyond false h.matched last) (pipe_of c h.base states q) (counts_of n) v
+    extend_at run beyond = plain_machine.extend plain first (streamed_of st) (plain_machine.buffered l e (map size_of grown.batches) (h.base + h.start) run beyond false h.matched last) (pipe_of c h.base states q) (counts_of n) v
 
-    abbrev closed_at : List (List (Row K)) → plain_machine.Closing SourceFault → List (Row K) → List (Row K) → plain_machine.Outcome (Row K) SourceFault V
+    abbrev closed_at : List (List (Row K)) → Closing → List (Row K) → List (Row K) → plain_machine.Outcome (Row K) SourceFault V
     closed_at bl be run beyond = going (plain_machine.state (streamed_of st) (plain_machine.buffered bl be (map size_of grown.batches) (h.base + h.start) run beyond false h.matched last) (pipe_of c h.base states q) (counts_of n) v (plain_machine.closing first))
 
     -- the next row begins another run
-    stops_there : (run beyond r b : List (Row K)) (x : Row K) → run ≡ y ∷ r → beyond ≡ x ∷ b → is_same (c.within y.key x.key) ≡ false → extend_at run beyond ≡ closed_at l (closing_of e) run beyond
-    stops_there run beyond r b x er eb t = subst (λ u. extend_at u beyond ≡ closed_at l (closing_of e) u beyond) (sym er) (subst (λ u. extend_at (y ∷ r) u ≡ closed_at l (closing_of e) (y ∷ r) u) (sym eb) (rw t))
+    stops_there : (run beyond r b : List (Row K)) (x : Row K) → run ≡ y ∷ r → beyond ≡ x ∷ b → is_same (c.within y.key x.key) ≡ false → extend_at run beyond ≡ closed_at l e run beyond
+    stops_there run beyond r b x er eb t = subst (λ u. extend_at u beyond ≡ closed_at l e u beyond) (sym er) (subst (λ u. extend_at (y ∷ r) u ≡ closed_at l e (y ∷ r) u) (sym eb) (rw t))
 
     abbrev load_at : plain_machine.Outcome (Row K) SourceFault V → List (Row K) → plain_machine.Outcome (Row K) SourceFault V
-    load_at o run = plain_machine.load plain o (plain_machine.extending first) (streamed_of st) l (closing_of e) (map size_of grown.batches) (h.base + h.start) run h.matched last (pipe_of c h.base states q) (counts_of n) v
+    load_at o run = plain_machine.load plain o (plain_machine.extending first) (streamed_of st) l e (map size_of grown.batches) (h.base + h.start) run h.matched last (pipe_of c h.base states q) (counts_of n) v
 
     -- no row is held past the run
-    loads_there : (run beyond r : List (Row K)) → run ≡ y ∷ r → beyond ≡ [] → extend_at run beyond ≡ load_at (closed_at [] plain_machine.ended run []) run
-    loads_there run beyond r er eb = subst (λ u. extend_at u beyond ≡ load_at (closed_at [] plain_machine.ended u []) u) (sym er) (ap (extend_at (y ∷ r)) eb)
+    loads_there : (run beyond r : List (Row K)) → run ≡ y ∷ r → beyond ≡ [] → extend_at run beyond ≡ load_at (closed_at [] (Ok tt) run []) run
+    loads_there run beyond r er eb = subst (λ u. extend_at u beyond ≡ load_at (closed_at [] (Ok tt) u []) u) (sym er) (ap (extend_at (y ∷ r)) eb)
 
     grows : Whole c batch_of st before q (extending first) → row_at h.start rows ≡ Some y → Follow (state_at c st before q n (extending first) v) v (extend_from c (Some y) first st before q n)
     grows w a =
@@ -288,13 +288,13 @@ module _ {K V : Type 0} (c : Setting K) (fits : V → Record → Bool) (after : 
               poised = (w.poised.0, record { some = omega (arith, g.some); begun = start_same; in_first = rows_same; not_ended = refl });
               next = λ m lo. (w.poised.0, record { some = omega (arith, g.some); begun = start_push grown.batches (record { rows = m; start = 0; end = 0 }) (omega (arith, b'.reaches, g.some)) ∙ start_same; in_first = omega (arith, rows_same, first_push grown.batches (record { rows = m; start = 0; end = 0 })); not_ended = refl });
             })
-            (goes (core st on q n (closing first))) (closed_at [] plain_machine.ended (run_of on) []) l e
+            (goes (core st on q n (closing first))) (closed_at [] (Ok tt) (run_of on) []) l e
             (stepped ∙ loads_there (run_of on) (drop (h.end + more) rows) (grown_head b g a).0 (grown_head b g a).1 none_past)
             (λ el ee m. (
               walk (m
-                  ∙ ap (closed_at [] plain_machine.ended (run_of on)) (sym none_past)
-                  ∙ ap (λ (u : List (List (Row K))). closed_at u plain_machine.ended (run_of on) (drop (h.end + more) rows)) (sym el)
-                  ∙ ap (λ (u : Closing). closed_at l (closing_of u) (run_of on) (drop (h.end + more) rows)) (sym ee)) stay,
+                  ∙ ap (closed_at [] (Ok tt) (run_of on)) (sym none_past)
+                  ∙ ap (λ (u : List (List (Row K))). closed_at u (Ok tt) (run_of on) (drop (h.end + more) rows)) (sym el)
+                  ∙ ap (λ (u : Closing). closed_at l u (run_of on) (drop (h.end + more) rows)) (sym ee)) stay,
               record { streamed_side = w.streamed_side; buffered_side = b'; block = w.block; poised = (w.poised.0, λ _. (start_same, rows_same)) },
             ))
 

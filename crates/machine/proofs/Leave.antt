@@ -1,6 +1,7 @@
 -- What leaves with the batches that a run has used up: noted rows by count are noted rows by place, and no failed row is cut.
 use Rattle.std.proofs.Common.{◌≡◌, ℕ, zero, suc, ◌+◌, ◌-◌, ◌<◌, ◌≤◌, Bool, true, false, cond, not, ltb, ◌⊎◌, List, [], ◌∷◌, ◌++◌, map, length, take, drop, filter, sym, refl, ap, ◌∙◌, subst, inl, inr, append_assoc, append-nil, arith, length-append, length-drop, take-append-drop, length-take, drop-drop}
 use lib.ListN.{length-map}
+use Rattle.std.proofs.Math.Nat.{zero-add, add-zero, suc-add, sub-zero}
 use Rattle.std.specs.List.{AllByRecursion}
 use Rattle.std.proofs.lemmas.List.Elements.{filter-append}
 use Rattle.std.proofs.ByRecursion.{All-append, All-weaker}
@@ -8,10 +9,10 @@ use Rattle.std.proofs.lemmas.List.{take_at, drop_at, take_all, take-map, drop-ma
 use Rattle.std.proofs.lemmas.Bool.{lt-ltb, le-ltb, le-leb, lt-leb, eqb-true, eqb-false, cases_lt}
 use Rattle.rows.specs.declared.record.Record.{Record}
 use Rattle.merge.specs.Table.{when}
-use Rattle.merge.specs.Sides.{is_full}
-use Rattle.law.specs.Pipe.{Mark, unseen, failing, met, fixeds, alones, places, failures, Left, left, giving}
+use Rattle.rows.specs.Sides.{is_full}
+use Rattle.law.specs.Pipe.{Mark, unseen, failing, met, fixed, fixeds, alones, places, failures, Left, left, giving}
 use Rattle.law.specs.Pipe.{Entry as plain_entry, leave as plain_leave}
-use Rattle.law.proofs.Totals.{total, total_append}
+use Rattle.law.proofs.Totals.{shift, total, total_append}
 use Rattle.law.proofs.Pipes.{unseens, fails_in, unseen_few, unseens_total, past, past_none, past_all}
 use Rattle.pipeline.specs.declared.entry.Entry.{Entry}
 use Rattle.pipeline.specs.declared.batch.BufferedBatch.{BufferedBatch}
@@ -24,7 +25,7 @@ use Rattle.pipeline.specs.Batches.{rows_of}
 use Rattle.pipeline.specs.Block.{lone_rows, leave}
 use Rattle.pipeline.specs.Held.{is_consumed, leaving}
 use Rattle.machine.specs.Machine.{Setting, leave_all}
-use Rattle.machine.proofs.Entries.{mark_of, entry_of, place_of, Frozen, Noted, entries_append, fixeds_append, noted_are, failed_are, place_of_alone}
+use Rattle.machine.proofs.Entries.{mark_of, entry_of, place_of, Frozen, Noted, noted_are, failed_are, place_of_alone}
 use Rattle.machine.proofs.Plain.{size_of, reach, FullButLast, first_rows}
 use Rattle.machine.proofs.Block.{block, noted_frozen}
 
@@ -69,20 +70,8 @@ module _ {K : Type 0} (c : Setting K) (batch_of : ℕ → ℕ) where
   lone_noted j (suc n) = (ap (λ (k : ℕ). lone (buffered_alone c.kind k)) (sym (place_lone j)), lone_noted (suc j) n)
 
   lone_add : (j n m : ℕ) → lone_rows c.kind j (n + m) ≡ lone_rows c.kind j n ++ lone_rows c.kind (j + n) m
-  lone_add j zero m = ap (λ (k : ℕ). lone_rows c.kind j k) zero_left ∙ ap (λ (k : ℕ). lone_rows c.kind k m) zero_right
-    where
-      zero_left : zero + m ≡ m
-      zero_left = omega arith
-
-      zero_right : j ≡ j + zero
-      zero_right = omega arith
-  lone_add j (suc n) m = ap (λ (k : ℕ). lone_rows c.kind j k) shift ∙ ap (λ (l : List Entry). lone (buffered_alone c.kind j) ∷ l) (lone_add (suc j) n m ∙ ap (λ (k : ℕ). lone_rows c.kind (suc j) n ++ lone_rows c.kind k m) over)
-    where
-      shift : suc n + m ≡ suc (n + m)
-      shift = omega arith
-
-      over : suc j + n ≡ j + suc n
-      over = omega arith
+  lone_add j zero m = rw (zero-add m, add-zero j)
+  lone_add j (suc n) m = ap (λ (k : ℕ). lone_rows c.kind j k) (suc-add n m) ∙ ap (λ (l : List Entry). lone (buffered_alone c.kind j) ∷ l) (lone_add (suc j) n m ∙ ap (λ (k : ℕ). lone_rows c.kind (suc j) n ++ lone_rows c.kind k m) (shift j n))
 
   lone_length : (j n : ℕ) → length (lone_rows c.kind j n) ≡ n
   lone_length j zero = refl
@@ -129,7 +118,7 @@ module _ {K : Type 0} (c : Setting K) (batch_of : ℕ → ℕ) where
       low = All-append _ t.0 _ (below_more (base + s) (base + n) (omega arith) t.0 t.2) (lone_below (base + s) (n - s) (base + n) (omega arith));
       high = lone_above (base + n) (m - n) (base + n) (omega arith);
     },
-    ([], ap (λ (z : ℕ). lone_rows c.kind z (m - n)) plus ∙ ap (lone_rows c.kind ((base + n) + 0)) less, tt),
+    ([], ap (λ (z : ℕ). lone_rows c.kind z (m - n)) (sym (add-zero (base + n))) ∙ ap (lone_rows c.kind ((base + n) + 0)) (sym (sub-zero (m - n))), tt),
   )
     where
       cut : m - s ≡ (n - s) + (m - n)
@@ -137,12 +126,6 @@ module _ {K : Type 0} (c : Setting K) (batch_of : ℕ → ℕ) where
 
       here : (base + s) + (n - s) ≡ base + n
       here = omega arith
-
-      plus : base + n ≡ (base + n) + 0
-      plus = omega arith
-
-      less : m - n ≡ (m - n) - 0
-      less = omega arith
   split false base m s n noted h k t = (record { front = noted; back = []; is = sym (append-nil noted); long = refl; low = below_more (base + s) (base + n) (omega arith) noted t; high = tt }, tt)
 
   kept_low : (e : ℕ) (l : List Entry) → AllByRecursion (λ x. place_at x < e) l → (filter (λ j. ltb j e) (map place_at l) ≡ map place_at l) × (filter (λ j. not (ltb j e)) (map place_at l) ≡ [])
@@ -271,9 +254,6 @@ module _ {K : Type 0} (c : Setting K) (batch_of : ℕ → ℕ) where
     pub emptied : m ≡ rows_of l → drop (length leaves) l ≡ []
     pub front : take (length leaves) l ≡ leaves
 
-  zero_plus : (base : ℕ) → base ≡ base + 0
-  zero_plus base = omega arith
-
   -- nothing leaves
   stays : (l : List BufferedBatch) (base m s : ℕ) (states : List FilterState) (noted : List Entry) (lone : Bool) → AllByRecursion (Noted c.kind c.asks) noted → s ≤ m → Stand lone base m s noted → length l ≤ 1 → reach l ≡ m → (m ≡ rows_of l → l ≡ [])
       → plain_leave (is_full c.kind) m base (map size_of l) (map mark_of states) (map place_at noted) ≡ left base (map size_of l) (map mark_of states) (map place_at noted) [] → LeftAs l [] base m states noted lone
@@ -285,7 +265,7 @@ module _ {K : Type 0} (c : Setting K) (batch_of : ℕ → ℕ) where
     given_frozen = tt;
     rest_noted = no';
     rest_behind = stand_below lone base m s noted h t;
-    plainly = e ∙ ap (λ (b : ℕ). left b (map size_of l) (map mark_of states) (map place_at noted) []) (zero_plus base);
+    plainly = e ∙ ap (λ (b : ℕ). left b (map size_of l) (map mark_of states) (map place_at noted) []) (sym (add-zero base));
     exactly = λ frozen due. ap (λ (z : List Entry). block c batch_of noted [] z due) (sym (append-nil frozen));
     few = few;
     reaches = omega (arith, r);
@@ -321,10 +301,10 @@ module _ {K : Type 0} (c : Setting K) (batch_of : ℕ → ℕ) where
         given = (p.front ++ fs) ++ next.given;
         rest = next.rest;
         told = gave ++ next.told;
-        given_are = entries_append c.kind c.asks (p.front ++ fs) next.given
-            ∙ ap (λ (z : List plain_entry). z ++ entries next.given) (entries_append c.kind c.asks p.front fs ∙ ap (λ (z : List plain_entry). z ++ entries fs) (noted_are c.kind c.asks p.front parts.0) ∙ ap (λ (z : List plain_entry). fixeds (alones (map place_at p.front)) ++ z) (fails_are (is_full c.kind) base (take n states)) ∙ sym (fixeds_append c.kind c.asks (alones (map place_at p.front)) _))
+        given_are = map-append (entry_of c.kind c.asks) (p.front ++ fs) next.given
+            ∙ ap (λ (z : List plain_entry). z ++ entries next.given) (map-append (entry_of c.kind c.asks) p.front fs ∙ ap (λ (z : List plain_entry). z ++ entries fs) (noted_are c.kind c.asks p.front parts.0) ∙ ap (λ (z : List plain_entry). fixeds (alones (map place_at p.front)) ++ z) (fails_are (is_full c.kind) base (take n states)) ∙ sym (map-append fixed (alones (map place_at p.front)) _))
             ∙ ap (λ (z : List plain_entry). fixeds gave ++ z) next.given_are
-            ∙ sym (fixeds_append c.kind c.asks gave next.told);
+            ∙ sym (map-append fixed gave next.told);
         given_frozen = All-append _ (p.front ++ fs) next.given (All-append _ p.front fs (noted_frozen c batch_of p.front parts.0) (fails_frozen (is_full c.kind) base (take n states))) next.given_frozen;
         rest_noted = next.rest_noted;
         rest_behind = subst (λ z. AllByRecursion (λ x. place_at x < z) next.rest) (omega arith) next.rest_behind;

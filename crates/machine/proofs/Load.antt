@@ -1,5 +1,5 @@
 -- The plain machine follows the load of a buffered batch, the seed of a run, and its growth.
-use Rattle.std.proofs.Common.{◌≡◌, ℕ, zero, suc, ◌+◌, ◌-◌, ◌<◌, ◌≤◌, Bool, true, false, cond, leb, List, [], ◌∷◌, ◌++◌, map, length, take, drop, replicate, Some, None, Option, Ordering, sym, refl, ap, ◌∙◌, append_assoc, append-nil, arith, length-append, length-drop, length-take}
+use Rattle.std.proofs.Common.{◌≡◌, ℕ, zero, suc, ◌+◌, ◌-◌, ◌<◌, ◌≤◌, Bool, true, false, cond, leb, List, [], ◌∷◌, ◌++◌, map, length, take, drop, replicate, Some, None, Ok, Err, Option, Ordering, sym, refl, ap, ◌∙◌, append_assoc, append-nil, arith, length-append, length-drop, length-take}
 use mathlib.Core.List.{nil≢cons}
 use lib.ListN.{length-map, length-replicate}
 use Rattle.std.proofs.lemmas.List.{drop_all, drop_at, drop-append-le, take-append-le, map-append}
@@ -8,9 +8,8 @@ use Rattle.rows.specs.declared.record.Record.{Record}
 use Rattle.rows.specs.declared.row.Row.{Row}
 use Rattle.rows.specs.Order.{is_same}
 use Rattle.sources.specs.declared.fault.SourceFault.{SourceFault}
-use Rattle.sources.specs.declared.source.Closing.{Closing}
-use Rattle.sources.specs.declared.source.Closing.TheVariants.{End, Fault}
-use Rattle.merge.specs.Sides.{oriented}
+use Rattle.sources.specs.Meaning.{Closing}
+use Rattle.rows.specs.Sides.{buffered_side, oriented}
 use Rattle.merge.specs.Merging.{by_key}
 use Rattle.law.specs.Pipe.{Mark, unseen, Pipe, pipe}
 use Rattle.law.specs.Pipe.{Entry as plain_entry}
@@ -24,10 +23,10 @@ use Rattle.pipeline.specs.Block.{Queued}
 use Rattle.pipeline.specs.Held.{Holding, on_last, longer, same_run, most_end}
 use Rattle.pipeline.specs.Held.{pushed as with_batch}
 use Rattle.machine.specs.declared.fault.JoinFault.TheVariants.{Unsorted, TableFull, TooManyBatches, TooManyRows, Source}
-use Rattle.machine.specs.Machine.{Setting, Phase, Streamed, Buffered, Counts, Outcome, disorder, last_of, buffered_side, load_checked, load_from, most_rows, most_batches}
+use Rattle.machine.specs.Machine.{Setting, Phase, Streamed, Buffered, Counts, Outcome, disorder, last_of, load_checked, load_from, most_rows, most_batches}
 use Rattle.machine.specs.Machine.{going as goes, answered as says}
 use Rattle.machine.proofs.Entries.{mark_of, entry_of, place_of}
-use Rattle.machine.proofs.Plain.{closing_of, phase_of, streamed_of, buffered_of, counts_of, plain_setting, pipe_of, size_of, WholeStreamed, WholeBuffered, WholeBlock, Poised, reach, FullButLast, first_start, first_rows}
+use Rattle.machine.proofs.Plain.{phase_of, streamed_of, buffered_of, counts_of, plain_setting, pipe_of, size_of, WholeStreamed, WholeBuffered, WholeBlock, Poised, reach, FullButLast, first_start, first_rows}
 use Rattle.machine.proofs.Follows.{Walk, stay, walk, walk_on, walk_to, calm, PlainState, Followed, followed_cond}
 use Rattle.machine.proofs.Fetch.{disorder_is, last_is, side_buffered, stops_with}
 
@@ -132,7 +131,7 @@ module _ {K V : Type 0} (c : Setting K) (fits : V → Record → Bool) (after : 
   follow_after s s' v (says a t) w h = (h.0, walk_on plain w h.1, h.2, h.3)
 
   -- rows join the run one by one
-  pub walk_run : (st : plain_machine.Streamed (Row K) SourceFault) (l : List (List (Row K))) (e : plain_machine.Closing SourceFault) (sizes : List ℕ) (first : ℕ) (y : Row K) (run beyond : List (Row K)) (en m : Bool) (last : Option (Row K)) (base : ℕ) (marks : List Mark) (noted : List ℕ) (unfrozen entries : List plain_entry) (due : List Record) (n : plain_machine.Counts) (v : V) (f : Bool) → due ≡ []
+  pub walk_run : (st : plain_machine.Streamed (Row K) SourceFault) (l : List (List (Row K))) (e : Closing) (sizes : List ℕ) (first : ℕ) (y : Row K) (run beyond : List (Row K)) (en m : Bool) (last : Option (Row K)) (base : ℕ) (marks : List Mark) (noted : List ℕ) (unfrozen entries : List plain_entry) (due : List Record) (n : plain_machine.Counts) (v : V) (f : Bool) → due ≡ []
       → Walk plain (plain_machine.state st (plain_machine.buffered l e sizes first (y ∷ run) beyond en m last) (pipe base marks noted unfrozen entries due) n v (plain_machine.extending f))
       (plain_machine.state st (plain_machine.buffered l e sizes first ((y ∷ run) ++ take (same_run c.within y.key beyond) beyond) (drop (same_run c.within y.key beyond) beyond) en m last) (pipe base marks noted unfrozen entries due) n v (plain_machine.extending f))
   walk_run st l e sizes first y run [] en m last base marks noted unfrozen entries due n v f z =
@@ -161,7 +160,7 @@ module _ {K V : Type 0} (c : Setting K) (fits : V → Record → Bool) (after : 
     pipe_here = pipe_of c h.base states q
 
     -- what the plain machine does in s
-    abbrev Loads : plain_machine.Outcome (Row K) SourceFault V → List (List (Row K)) → plain_machine.Closing SourceFault → Type 0
+    abbrev Loads : plain_machine.Outcome (Row K) SourceFault V → List (List (Row K)) → Closing → Type 0
     Loads at_end l e = plain_machine.micro plain s ≡ plain_machine.load plain at_end (phase_of c.kind (h.base + h.end) ph) (streamed_of st) l e (map size_of h.batches) (h.base + h.start) run_here h.matched last pipe_here (counts_of n) v
 
     pub record Loading : Type 0 where
@@ -172,8 +171,8 @@ module _ {K V : Type 0} (c : Setting K) (fits : V → Record → Bool) (after : 
       pub poised : Poised batch_of st h false ph
       pub next : (m : ℕ) → 1 ≤ m → Poised batch_of st (with_batch m h) false ph
 
-    whole_side : (w : Loading) → WholeBuffered c (held_side [] End)
-    whole_side w = w.buffered_side [] End
+    whole_side : (w : Loading) → WholeBuffered c (held_side [] (Ok tt))
+    whole_side w = w.buffered_side [] (Ok tt)
 
     read_is : (w : Loading) → (h.base + h.start) + length run_here ≡ h.base + h.held
     read_is w = let b = whole_side w in omega (arith, length-take (h.end - h.start) (drop h.start rows), length-drop h.start rows, b.rows_held, b.run, b.in_held, w.all_in)
@@ -181,22 +180,22 @@ module _ {K V : Type 0} (c : Setting K) (fits : V → Record → Bool) (after : 
     beyond_none : (w : Loading) → drop h.end rows ≡ []
     beyond_none w = drop_all h.end rows (omega (arith, (whole_side w).rows_held, w.all_in))
 
-    side_is : (w : Loading) (l : List (List (Row K))) (e : Closing) → buffered_of (held_side l e) ≡ plain_machine.buffered l (closing_of e) (map size_of h.batches) (h.base + h.start) run_here [] false h.matched last
-    side_is w l e = ap (λ (b : List (Row K)). plain_machine.buffered l (closing_of e) (map size_of h.batches) (h.base + h.start) run_here b false h.matched last) (beyond_none w)
+    side_is : (w : Loading) (l : List (List (Row K))) (e : Closing) → buffered_of (held_side l e) ≡ plain_machine.buffered l e (map size_of h.batches) (h.base + h.start) run_here [] false h.matched last
+    side_is w l e = ap (λ (b : List (Row K)). plain_machine.buffered l e (map size_of h.batches) (h.base + h.start) run_here b false h.matched last) (beyond_none w)
 
     load_checks : (w : Loading) (o : Option ℕ) (x : Row K) (r : List (Row K)) (l : List (List (Row K))) (e : Closing) → disorder c.within last (x ∷ r) (h.base + h.held) ≡ o → (h.base + h.held) + length (x ∷ r) ≤ most_rows → h.held + length (x ∷ r) ≤ c.buffered_table
-        → plain_machine.micro plain s ≡ plain_machine.load_checked plain (plain_machine.disorder (by_key c.within) last (x ∷ r) ((h.base + h.start) + length run_here)) (phase_of c.kind (h.base + h.end) ph) (streamed_of st) l (closing_of e) (x ∷ r) (map size_of h.batches) (h.base + h.start) run_here h.matched last pipe_here (counts_of n) v
+        → plain_machine.micro plain s ≡ plain_machine.load_checked plain (plain_machine.disorder (by_key c.within) last (x ∷ r) ((h.base + h.start) + length run_here)) (phase_of c.kind (h.base + h.end) ph) (streamed_of st) l e (x ∷ r) (map size_of h.batches) (h.base + h.start) run_here h.matched last pipe_here (counts_of n) v
         → Follow s v (load_checked c o ph (x ∷ r) l st (held_side ((x ∷ r) ∷ l) e) q n)
     load_checks w o x r l e d fr ft m = go o ((sym (disorder_is c.within last (x ∷ r) _) ∙ ap (disorder c.within last (x ∷ r)) (read_is w)) ∙ d)
       where
-        b : WholeBuffered c (held_side [] End)
+        b : WholeBuffered c (held_side [] (Ok tt))
         b = whole_side w
 
         at_load : Option ℕ → plain_machine.Outcome (Row K) SourceFault V
-        at_load z = plain_machine.load_checked plain z (phase_of c.kind (h.base + h.end) ph) (streamed_of st) l (closing_of e) (x ∷ r) (map size_of h.batches) (h.base + h.start) run_here h.matched last pipe_here (counts_of n) v
+        at_load z = plain_machine.load_checked plain z (phase_of c.kind (h.base + h.end) ph) (streamed_of st) l e (x ∷ r) (map size_of h.batches) (h.base + h.start) run_here h.matched last pipe_here (counts_of n) v
 
         loaded : List ℕ → List (Row K) → List (Row K) → Option (Row K) → List Mark → plain_machine.Outcome (Row K) SourceFault V
-        loaded sizes run beyond lst marks = going (plain_machine.state (streamed_of st) (plain_machine.buffered l (closing_of e) sizes (h.base + h.start) run beyond false h.matched lst)
+        loaded sizes run beyond lst marks = going (plain_machine.state (streamed_of st) (plain_machine.buffered l e sizes (h.base + h.start) run beyond false h.matched lst)
             (pipe h.base marks (map (place_of c.kind c.asks) q.noted) (map (entry_of c.kind c.asks) q.unfrozen) (map (entry_of c.kind c.asks) q.frozen) (map (oriented c.kind) q.due)) (counts_of n) v (phase_of c.kind (h.base + h.end) ph))
 
         new : BufferedBatch
@@ -231,11 +230,11 @@ module _ {K V : Type 0} (c : Setting K) (fits : V → Record → Bool) (after : 
         go (Some k) d =
             stops_with c fits after batch_of sized (Unsorted (buffered_side c.kind) k) (plain_machine.disordered plain_machine.on_buffered k) (ap (λ (z : plain_machine.Side). plain_machine.disordered z k) (side_buffered c.kind)) st (held_side l e) q n v s (streamed_of st) _ refl (side_is w l e) (m ∙ ap at_load d) w.streamed_side (w.buffered_side l e) w.block
 
-    pub follows_load : (w : Loading) (over : Outcome K) (at_end : plain_machine.Outcome (Row K) SourceFault V) (l : List (List (Row K))) (e : Closing) → Loads at_end l (closing_of e) → (l ≡ [] → e ≡ End → plain_machine.micro plain s ≡ at_end → Follow s v over)
+    pub follows_load : (w : Loading) (over : Outcome K) (at_end : plain_machine.Outcome (Row K) SourceFault V) (l : List (List (Row K))) (e : Closing) → Loads at_end l e → (l ≡ [] → e ≡ (Ok tt) → plain_machine.micro plain s ≡ at_end → Follow s v over)
         → Follow s v (load_from c over ph l e st (held_side l e) q n)
-    follows_load w over at_end [] End m last_one = last_one refl refl m
-    follows_load w over at_end [] (Fault f) m last_one =
-        stops_with c fits after batch_of sized (Source (buffered_side c.kind) f) (plain_machine.from_source plain_machine.on_buffered f) (ap (λ (z : plain_machine.Side). plain_machine.from_source z f) (side_buffered c.kind)) st (held_side [] (Fault f)) q n v s (streamed_of st) _ refl (side_is w [] (Fault f)) m w.streamed_side (w.buffered_side [] (Fault f)) w.block
+    follows_load w over at_end [] (Ok end) m last_one = last_one refl refl m
+    follows_load w over at_end [] (Err f) m last_one =
+        stops_with c fits after batch_of sized (Source (buffered_side c.kind) f) (plain_machine.from_source plain_machine.on_buffered f) (ap (λ (z : plain_machine.Side). plain_machine.from_source z f) (side_buffered c.kind)) st (held_side [] (Err f)) q n v s (streamed_of st) _ refl (side_is w [] (Err f)) m w.streamed_side (w.buffered_side [] (Err f)) w.block
     follows_load w over at_end ([] ∷ l) e m last_one = (
       walk (m ∙ ap (λ (b : plain_machine.Buffered (Row K) SourceFault). going (plain_machine.state (streamed_of st) b pipe_here (counts_of n) v (phase_of c.kind (h.base + h.end) ph))) (sym (side_is w l e))) stay,
       record { streamed_side = w.streamed_side; buffered_side = w.buffered_side l e; block = w.block; poised = w.poised },
@@ -244,13 +243,13 @@ module _ {K V : Type 0} (c : Setting K) (fits : V → Record → Bool) (after : 
         let rows' = x ∷ r in
         let b = held_side (rows' ∷ l) e in
         let place = (h.base + h.start) + length run_here in
-        let bf' = plain_machine.buffered (rows' ∷ l) (closing_of e) (map size_of h.batches) (h.base + h.start) run_here [] false h.matched last in
+        let bf' = plain_machine.buffered (rows' ∷ l) e (map size_of h.batches) (h.base + h.start) run_here [] false h.matched last in
         let stop_at : plain_machine.Fault SourceFault → plain_machine.Outcome (Row K) SourceFault V = λ f. plain_machine.stops plain f (streamed_of st) bf' pipe_here (counts_of n) v in
         let on_b = plain_machine.on_buffered in
         let long = stop_at (plain_machine.overlong on_b place) in
         let many = stop_at (plain_machine.crowded place) in
         let big = stop_at (plain_machine.oversized on_b place) in
-        let checked = plain_machine.load_checked plain (plain_machine.disorder (by_key c.within) last rows' place) (phase_of c.kind (h.base + h.end) ph) (streamed_of st) l (closing_of e) rows' (map size_of h.batches) (h.base + h.start) run_here h.matched last pipe_here (counts_of n) v in
+        let checked = plain_machine.load_checked plain (plain_machine.disorder (by_key c.within) last rows' place) (phase_of c.kind (h.base + h.end) ph) (streamed_of st) l e rows' (map size_of h.batches) (h.base + h.start) run_here h.matched last pipe_here (counts_of n) v in
         let t₁ : leb (place + length rows') most_rows ≡ leb ((h.base + h.held) + length rows') most_rows = ap (λ (k : ℕ). leb (k + length rows') most_rows) (read_is w) in
         let t₂ : leb (suc (length (map size_of h.batches))) most_batches ≡ leb (suc (length h.batches)) most_batches = ap (λ (k : ℕ). leb (suc k) most_batches) (length-map h.batches size_of) in
         let t₃ : leb (plain_machine.total_size (map size_of h.batches) + length rows') c.buffered_table ≡ leb (h.held + length rows') c.buffered_table = ap (λ (k : ℕ). leb (k + length rows') c.buffered_table) (sizes_total h.batches ∙ (whole_side w).batches_held) in

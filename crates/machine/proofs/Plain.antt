@@ -7,9 +7,7 @@ use Rattle.rows.specs.declared.kind.Side.TheVariants.{Left as on_left, Right as 
 use Rattle.rows.specs.declared.record.Record.{Record}
 use Rattle.rows.specs.declared.row.Row.{Row}
 use Rattle.sources.specs.declared.fault.SourceFault.{SourceFault}
-use Rattle.sources.specs.declared.source.Closing.{Closing}
-use Rattle.sources.specs.declared.source.Closing.TheVariants.{End, Fault}
-use Rattle.merge.specs.Sides.{is_right, is_outer, is_full, oriented, left_of, right_of}
+use Rattle.rows.specs.Sides.{is_right, is_outer, is_full, oriented, left_of, right_of}
 use Rattle.merge.specs.Merging.{by_key}
 use Rattle.law.specs.Pipe.{Pipe, pipe}
 use Rattle.law.specs.Machine as plain_machine
@@ -43,10 +41,6 @@ answer_of kind (Ok Waiting) = plain_machine.waiting
 answer_of kind (Ok Finished) = plain_machine.finished
 answer_of kind (Err f) = plain_machine.failed (fault_of kind f)
 
-abbrev pub closing_of : Closing → plain_machine.Closing SourceFault
-closing_of End = plain_machine.ended
-closing_of (Fault f) = plain_machine.faulted f
-
 abbrev pub row_of : {A : Type 0} → ℕ × A → A
 row_of p = p.1
 
@@ -66,13 +60,13 @@ abbrev pub size_of : BufferedBatch → ℕ
 size_of b = b.rows
 
 abbrev pub streamed_of : {K : Type 0} → Streamed K → plain_machine.Streamed (Row K) SourceFault
-streamed_of st = plain_machine.streamed st.batches (closing_of st.closing) (drop st.at st.rows) (st.first + st.at) st.ended st.last
+streamed_of st = plain_machine.streamed st.batches st.closing (drop st.at st.rows) (st.first + st.at) st.ended st.last
 
 abbrev pub run_of : {K : Type 0} → Buffered K → List (Row K)
 run_of bf = take (bf.holding.end - bf.holding.start) (drop bf.holding.start bf.rows)
 
 abbrev pub buffered_of : {K : Type 0} → Buffered K → plain_machine.Buffered (Row K) SourceFault
-buffered_of bf = plain_machine.buffered bf.batches (closing_of bf.closing) (map size_of bf.holding.batches) (bf.holding.base + bf.holding.start) (run_of bf) (drop bf.holding.end bf.rows) bf.ended bf.holding.matched bf.last
+buffered_of bf = plain_machine.buffered bf.batches bf.closing (map size_of bf.holding.batches) (bf.holding.base + bf.holding.start) (run_of bf) (drop bf.holding.end bf.rows) bf.ended bf.holding.matched bf.last
 
 abbrev pub counts_of : Counts → plain_machine.Counts
 counts_of n = plain_machine.counts n.turns n.rows n.runs n.handed

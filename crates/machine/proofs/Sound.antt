@@ -5,9 +5,8 @@ use Rattle.std.proofs.lemmas.Bool.{or_cases, or_left, or_right}
 use Rattle.rows.specs.declared.kind.Side.{Side}
 use Rattle.rows.specs.declared.record.Record.{Record}
 use Rattle.rows.specs.declared.row.Row.{Row}
-use Rattle.sources.specs.declared.source.Closing.{Closing}
-use Rattle.sources.specs.declared.source.Closing.TheVariants.{End, Fault}
-use Rattle.merge.specs.Sides.{is_outer}
+use Rattle.sources.specs.Meaning.{Closing}
+use Rattle.rows.specs.Sides.{is_outer}
 use Rattle.pipeline.specs.declared.entry.Entry.{Entry}
 use Rattle.pipeline.specs.declared.batch.BufferedBatch.{BufferedBatch}
 use Rattle.pipeline.specs.Entries.{lone}
@@ -52,8 +51,8 @@ module _ {K : Type 0} (c : Setting K) where
   sound_taken (e ∷ es) first r l st bf q n = (refl, refl)
 
   sound_fetch : (first : Bool) (l : List (List (Row K))) (e : Closing) (st : Streamed K) (bf : Buffered K) (q : Queued) (n : Counts) → Sound st bf (fetch_from c first l e st bf q n)
-  sound_fetch first [] End st bf q n = (refl, refl)
-  sound_fetch first [] (Fault f) st bf q n = ((refl, refl), refl)
+  sound_fetch first [] (Ok end) st bf q n = (refl, refl)
+  sound_fetch first [] (Err f) st bf q n = ((refl, refl), refl)
   sound_fetch first ([] ∷ l) e st bf q n = (refl, refl)
   sound_fetch first ((x ∷ r) ∷ l) e st bf q n = sound_cond st bf (leb (streamed_read st + length (x ∷ r)) most_rows) _ _ (sound_cond st bf (leb (length (x ∷ r)) c.streamed_table) _ _ (sound_taken q.unfrozen first (x ∷ r) l st bf q n) ((refl, refl), refl)) ((refl, refl), refl)
 
@@ -62,8 +61,8 @@ module _ {K : Type 0} (c : Setting K) where
   sound_loaded (Some k) ph r l st bf q n = ((refl, refl), refl)
 
   sound_load : (over : Outcome K) (ph : Phase K) (l : List (List (Row K))) (e : Closing) (st : Streamed K) (bf : Buffered K) (q : Queued) (n : Counts) → Sound st bf over → Sound st bf (load_from c over ph l e st bf q n)
-  sound_load over ph [] End st bf q n h = h
-  sound_load over ph [] (Fault f) st bf q n h = ((refl, refl), refl)
+  sound_load over ph [] (Ok end) st bf q n h = h
+  sound_load over ph [] (Err f) st bf q n h = ((refl, refl), refl)
   sound_load over ph ([] ∷ l) e st bf q n h = (refl, refl)
   sound_load over ph ((x ∷ r) ∷ l) e st bf q n h =
       sound_cond st bf (leb (buffered_read bf + length (x ∷ r)) most_rows) _ _

@@ -9,8 +9,9 @@ use Rattle.rows.specs.Order.{Laws}
 use Rattle.sources.specs.declared.fault.SourceFault.{SourceFault}
 use Rattle.merge.specs.Table.{when}
 use Rattle.merge.specs.Merging.{by_key}
-use Rattle.merge.specs.Sides.{oriented}
-use Rattle.merge.specs.Sides.{is_full as is_full_kind}
+use Rattle.sources.specs.Meaning.{Closing}
+use Rattle.rows.specs.Sides.{oriented}
+use Rattle.rows.specs.Sides.{is_full as is_full_kind}
 use Rattle.merge.proofs.Sides.{oriented_twice}
 use Rattle.law.specs.Pipe.{Mark, unseen, pipe, places}
 use Rattle.law.specs.Machine as plain_machine
@@ -27,7 +28,7 @@ use Rattle.machine.specs.declared.answer.Answer.TheVariants.{Waiting, Finished}
 use Rattle.machine.specs.Machine.{Setting, Told, Phase, fetching, seeding, extending, closing, turning, passing, done, pairing, stopped, Streamed, Buffered, Counts, Core, core, Outcome, row_at, step, is_lone, Moved, goes, hands_over, says, moved, handed, micro_due, micro, counted_record, Turned, answers, steps, hands}
 use Rattle.machine.specs.Machine.{going as one_on, answered as one_said}
 use Rattle.machine.proofs.Entries.{mark_of, entry_of, place_of, marking_is}
-use Rattle.machine.proofs.Plain.{answer_of, closing_of, row_of, phase_of, streamed_of, buffered_of, run_of, counts_of, plain_setting, state_at, state_of, Whole}
+use Rattle.machine.proofs.Plain.{answer_of, row_of, phase_of, streamed_of, buffered_of, run_of, counts_of, plain_setting, state_at, state_of, Whole}
 use Rattle.machine.proofs.Follows.{Walk, stay, walk, calm, PlainState, WholeCore, Followed, follows_pair, follows_pass, follows_close}
 use Rattle.machine.proofs.Fetch.{follows_fetch}
 use Rattle.machine.proofs.Grow.{follows_seed, follows_extend}
@@ -35,7 +36,7 @@ use Rattle.machine.proofs.Leave.{place_at}
 use Rattle.machine.proofs.Turn.{noted_now, now_places, run_length, TurnReady, follows_turn}
 
 module _ {K V : Type 0} (c : Setting K) (fits : V → Record → Bool) (after : V → Record → V) (batch_of : ℕ → ℕ) (sized : 1 ≤ c.size)
-    (laws : Laws (by_key c.within) (by_key c.across)) (fair : plain_law.Fair (plain_setting c fits after)) (sl : List (List (Row K))) (sc : plain_machine.Closing SourceFault) (bl : List (List (Row K))) (bc : plain_machine.Closing SourceFault) (v₀ : V) where
+    (laws : Laws (by_key c.within) (by_key c.across)) (fair : plain_law.Fair (plain_setting c fits after)) (sl : List (List (Row K))) (sc : Closing) (bl : List (List (Row K))) (bc : Closing) (v₀ : V) where
   abbrev plain : plain_machine.Setting (Row K) V
   plain = plain_setting c fits after
 
@@ -71,9 +72,9 @@ module _ {K V : Type 0} (c : Setting K) (fits : V → Record → Bool) (after : 
   ready : (out : List Record) (m most : ℕ) (st : Streamed K) (bf : Buffered K) (q : Queued) (n : Counts) (v : V) → Whole c batch_of st bf q turning → Holds out m most (state_at c st bf q n turning v) → TurnReady c fits after batch_of sized st bf q
   ready out m most st bf q n v w i = record {
     not_both = i.now.1;
-    row_or_end = ready_row (drop st.at st.rows) st.ended (plain_law.over false st.batches (closing_of st.closing)) i.now.0.0;
-    run_or_end = ready_run (run_of bf) (drop bf.holding.end bf.rows) bf.ended (plain_law.over false bf.batches (closing_of bf.closing)) i.now.0.1;
-    run_open = λ lt. ready_open (run_of bf) (drop bf.holding.end bf.rows) bf.ended (plain_law.over false bf.batches (closing_of bf.closing)) i.now.0.1 (omega (arith, long));
+    row_or_end = ready_row (drop st.at st.rows) st.ended (plain_law.over false st.batches st.closing) i.now.0.0;
+    run_or_end = ready_run (run_of bf) (drop bf.holding.end bf.rows) bf.ended (plain_law.over false bf.batches bf.closing) i.now.0.1;
+    run_open = λ lt. ready_open (run_of bf) (drop bf.holding.end bf.rows) bf.ended (plain_law.over false bf.batches bf.closing) i.now.0.1 (omega (arith, long));
     unpaired = λ lt f. unpaired lt f;
   }
     where
@@ -113,12 +114,12 @@ module _ {K V : Type 0} (c : Setting K) (fits : V → Record → Bool) (after : 
   follows_step out m most (extending first) st bf q n v z w i = follows_extend c fits after batch_of sized first st bf q n v z w
   follows_step out m most (closing first) st bf q n v z w i = follows_close c fits after batch_of sized first st bf q n v z w
   follows_step out m most turning st bf q n v z w i = follows_turn c fits after batch_of sized st bf q n v z w (ready out m most st bf q n v w i)
-  follows_step out m most (pairing todo) st bf q n v z w i = follows_pair c fits after batch_of sized (row_at st.at st.rows) todo st bf q n v refl (λ e. subst (λ r. PairingAt plain laws sl sc bl bc v₀ i.ghosts r (run_of bf) (streamed_of st) (buffered_of bf) (plain_law.over false st.batches (closing_of st.closing)) (plain_law.over false bf.batches (closing_of bf.closing)) (map row_of todo) ((bf.holding.base + bf.holding.end) - length todo)) e i.now.0) z w
+  follows_step out m most (pairing todo) st bf q n v z w i = follows_pair c fits after batch_of sized (row_at st.at st.rows) todo st bf q n v refl (λ e. subst (λ r. PairingAt plain laws sl sc bl bc v₀ i.ghosts r (run_of bf) (streamed_of st) (buffered_of bf) (plain_law.over false st.batches st.closing) (plain_law.over false bf.batches bf.closing) (map row_of todo) ((bf.holding.base + bf.holding.end) - length todo)) e i.now.0) z w
   follows_step out m most passing st bf q n v z w i = go (drop st.at st.rows) refl
     where
       go : (r : List (Row K)) → drop st.at st.rows ≡ r → Follow (state_at c st bf q n passing v) v (step c passing st bf q n)
-      go [] e = absurd (subst (λ r. PassingAt plain laws sl sc bl bc v₀ i.ghosts r (streamed_of st) (buffered_of bf) (plain_law.over false st.batches (closing_of st.closing)) (plain_law.over false bf.batches (closing_of bf.closing))) e i.now)
-      go (x ∷ r) e = follows_pass c fits after batch_of sized st bf q n v (λ f. nil≢cons (sym f ∙ e)) (subst (λ r. PassingAt plain laws sl sc bl bc v₀ i.ghosts r (streamed_of st) (buffered_of bf) (plain_law.over false st.batches (closing_of st.closing)) (plain_law.over false bf.batches (closing_of bf.closing))) e i.now).not_ended z w
+      go [] e = absurd (subst (λ r. PassingAt plain laws sl sc bl bc v₀ i.ghosts r (streamed_of st) (buffered_of bf) (plain_law.over false st.batches st.closing) (plain_law.over false bf.batches bf.closing)) e i.now)
+      go (x ∷ r) e = follows_pass c fits after batch_of sized st bf q n v (λ f. nil≢cons (sym f ∙ e)) (subst (λ r. PassingAt plain laws sl sc bl bc v₀ i.ghosts r (streamed_of st) (buffered_of bf) (plain_law.over false st.batches st.closing) (plain_law.over false bf.batches bf.closing)) e i.now).not_ended z w
   follows_step out m most done st bf q n v z w i = stays_so (Ok Finished) st bf q n done v (calm plain _ _ _ _ _ _ _ (map (oriented c.kind) q.due) _ v _ (ap (map (oriented c.kind)) z)) w
   follows_step out m most (stopped f) st bf q n v z w i = stays_so (Err f) st bf q n (stopped f) v (calm plain _ _ _ _ _ _ _ (map (oriented c.kind) q.due) _ v _ (ap (map (oriented c.kind)) z)) w
 

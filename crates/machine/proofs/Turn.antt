@@ -3,6 +3,8 @@ use Rattle.std.proofs.Common.{◌≡◌, ℕ, zero, suc, ◌+◌, ◌-◌, ◌<�
 use mathlib.Core.List.{nil≢cons}
 use mathlib.Core.Bool.{false≢true}
 use lib.ListN.{length-map}
+use Rattle.law.proofs.Totals.{shift}
+use Rattle.std.proofs.Math.Nat.{add-zero, sub-zero, zero-sub}
 use Rattle.std.specs.List.{AllByRecursion}
 use Rattle.std.proofs.ByRecursion.{All-append}
 use Rattle.std.proofs.lemmas.List.{take_all, map-append}
@@ -11,8 +13,8 @@ use Rattle.rows.specs.declared.record.Record.{Record}
 use Rattle.rows.specs.declared.row.Row.{Row}
 use Rattle.sources.specs.declared.fault.SourceFault.{SourceFault}
 use Rattle.merge.specs.Table.{when}
-use Rattle.merge.specs.Sides.{oriented, is_outer}
-use Rattle.merge.specs.Sides.{is_full as is_full_kind}
+use Rattle.rows.specs.Sides.{oriented, is_outer}
+use Rattle.rows.specs.Sides.{is_full as is_full_kind}
 use Rattle.law.specs.Pipe.{Mark, Pipe, pipe, places, fixeds, first_leaves, given_by, put, Left}
 use Rattle.law.specs.Pipe.{Entry as plain_entry, leave as plain_leave, part as plain_part, marking as plain_marking, flush as plain_flush}
 use Rattle.law.specs.Machine as plain_machine
@@ -27,8 +29,8 @@ use Rattle.pipeline.specs.Block.{Queued, lone_rows}
 use Rattle.pipeline.specs.Held.{Holding, is_consumed, leaving, placed, run_from, run_at}
 use Rattle.machine.specs.Machine.{Setting, seeding, turning, Streamed, Buffered, Counts, core, Outcome, deferred, let_go, counted_run, row_at, leave_all, part, is_lone, note_run, pass_run, lone_row, head_start, to_pair, compared, run_head, comparison, turn, has_batch}
 use Rattle.machine.specs.Machine.{going as goes}
-use Rattle.machine.proofs.Entries.{mark_of, entry_of, Frozen, Noted, entries_append, entries_judged, frozen_judged, marking_is, length_marking}
-use Rattle.machine.proofs.Plain.{closing_of, row_of, streamed_of, buffered_of, run_of, counts_of, plain_setting, pipe_of, state_at, size_of, Whole, WholeBuffered, WholeBlock, Placed, reach, FullButLast, first_start, first_rows}
+use Rattle.machine.proofs.Entries.{mark_of, entry_of, Frozen, Noted, entries_judged, frozen_judged, marking_is, length_marking}
+use Rattle.machine.proofs.Plain.{row_of, streamed_of, buffered_of, run_of, counts_of, plain_setting, pipe_of, state_at, size_of, Whole, WholeBuffered, WholeBlock, Placed, reach, FullButLast, first_start, first_rows}
 use Rattle.machine.proofs.Block.{block, put_is, let_go_whole, flushed_is, flush_whole}
 use Rattle.machine.proofs.Follows.{stay, walk, calm, PlainState, Followed, followed_cond, row_some, row_none, follows_lone, marked_whole}
 use Rattle.machine.proofs.Leave.{place_at, lone_places, lone_noted, Stand, stand_below, Unpaired, LeftAs, leaves, kept_last, reach_tail}
@@ -59,14 +61,8 @@ one_full (b ∷ d ∷ l) h = absurd (omega arith)
 -- ---- rows with their places
 
 placed_append : {A : Type 0} (j : ℕ) (a b : List A) → placed j (a ++ b) ≡ placed j a ++ placed (j + length a) b
-placed_append j [] b = ap (λ (k : ℕ). placed k b) zero_right
-  where
-    zero_right : j ≡ j + 0
-    zero_right = omega arith
-placed_append {A} j (x ∷ a) b = ap (λ (l : List (ℕ × A)). (j, x) ∷ l) (placed_append (suc j) a b ∙ ap (λ (k : ℕ). placed (suc j) a ++ placed k b) over)
-  where
-    over : suc j + length a ≡ j + suc (length a)
-    over = omega arith
+placed_append j [] b = ap (λ (k : ℕ). placed k b) (sym (add-zero j))
+placed_append {A} j (x ∷ a) b = ap (λ (l : List (ℕ × A)). (j, x) ∷ l) (placed_append (suc j) a b ∙ ap (λ (k : ℕ). placed (suc j) a ++ placed k b) (shift j (length a)))
 
 placed_rows : {A : Type 0} (j : ℕ) (l : List A) → map row_of (placed j l) ≡ l
 placed_rows j [] = refl
@@ -85,10 +81,7 @@ take_none n l e = ap (λ (k : ℕ). take k l) e
 
 -- the batches' ranges are the run
 run_from_is : {A : Type 0} (j r : ℕ) (l : List BufferedBatch) (rows : List A) → FullButLast l → r ≤ first_rows l → rows_of l ≤ length rows → run_from j r l rows ≡ placed (j + r) (take (reach l - r) (drop r rows))
-run_from_is j r [] rows f h len = sym (ap (placed (j + r)) (take_none (0 - r) (drop r rows) none_left))
-  where
-    none_left : 0 - r ≡ zero
-    none_left = omega arith
+run_from_is j r [] rows f h len = sym (ap (placed (j + r)) (take_none (0 - r) (drop r rows) (zero-sub r)))
 run_from_is j r (b ∷ []) rows f h len = append-nil _
 run_from_is {A} j r (b ∷ d ∷ l) rows f h len =
     let n = b.rows - r in
@@ -96,16 +89,13 @@ run_from_is {A} j r (b ∷ d ∷ l) rows f h len =
     ap (λ (z : ℕ). placed (j + r) (take (z - r) (drop r rows)) ++ run_from (j + b.rows) 0 (d ∷ l) (drop b.rows rows)) f.0
     ∙ ap (λ (z : List (ℕ × A)). placed (j + r) (take n (drop r rows)) ++ z) (run_from_is (j + b.rows) 0 (d ∷ l) (drop b.rows rows) f.1 (omega arith) (omega (arith, length-drop b.rows rows)))
     ∙ ap (λ (z : ℕ). placed (j + r) (take n (drop r rows)) ++ placed z (take (k - 0) (drop b.rows rows))) place_same
-    ∙ ap (λ (z : ℕ). placed (j + r) (take n (drop r rows)) ++ placed ((j + r) + length (take n (drop r rows))) (take z (drop b.rows rows))) less_none
+    ∙ ap (λ (z : ℕ). placed (j + r) (take n (drop r rows)) ++ placed ((j + r) + length (take n (drop r rows))) (take z (drop b.rows rows))) (sub-zero (reach (d ∷ l)))
     ∙ ap (λ (z : List A). placed (j + r) (take n (drop r rows)) ++ placed ((j + r) + length (take n (drop r rows))) (take k z)) (sym (drop-drop n r rows ∙ ap (λ (z : ℕ). drop z rows) rows_same))
     ∙ sym (placed_append (j + r) (take n (drop r rows)) (take k (drop n (drop r rows))))
     ∙ ap (placed (j + r)) (sym (take-add n k (drop r rows)) ∙ ap (λ (z : ℕ). take z (drop r rows)) both)
   where
     place_same : (j + b.rows) + 0 ≡ (j + r) + length (take (b.rows - r) (drop r rows))
     place_same = omega (arith, length-take (b.rows - r) (drop r rows), length-drop r rows)
-
-    less_none : reach (d ∷ l) - 0 ≡ reach (d ∷ l)
-    less_none = omega arith
 
     rows_same : r + (b.rows - r) ≡ b.rows
     rows_same = omega arith
@@ -168,7 +158,7 @@ module _ {K V : Type 0} (c : Setting K) (fits : V → Record → Bool) (after : 
     states_here = marking c.kind h.base (judged_all c.asks q.unfrozen) bf.states
 
     abbrev at_pass : ℕ → Bool → Pipe × List ℕ → plain_machine.Outcome (Row K) SourceFault V
-    at_pass first en p = going (plain_machine.state (streamed_of st) (plain_machine.buffered bf.batches (closing_of bf.closing) p.1 first [] (drop h.end bf.rows) en false bf.last) p.0 (counts_of (counted_run n)) v (plain_machine.seeding false))
+    at_pass first en p = going (plain_machine.state (streamed_of st) (plain_machine.buffered bf.batches bf.closing p.1 first [] (drop h.end bf.rows) en false bf.last) p.0 (counts_of (counted_run n)) v (plain_machine.seeding false))
 
     abbrev pipe_noted : List ℕ → Pipe
     pipe_noted l = pipe h.base (map mark_of bf.states) l (entries q.unfrozen) (entries q.frozen) (map (oriented c.kind) q.due)
@@ -228,8 +218,8 @@ module _ {K V : Type 0} (c : Setting K) (fits : V → Record → Bool) (after : 
         go [] e f = (
           walk (m
               ∙ ap (λ (t : Bool). at_pass (h.base + h.end) false (cond t (given_by (deferred c) (entries q.unfrozen) (entries q.frozen) (map (oriented c.kind) q.due) (plain_leave (is_full_kind c.kind) h.end h.base (map size_of h.batches) (plain_marking h.base (entries q.unfrozen) (map mark_of bf.states)) (places_of noted_here))) (pipe_noted (places_of noted_here), map size_of h.batches))) (first_stays c batch_of h.batches h.end b.tiled b.reaches (omega (arith, b.batches_held, b.in_held)) e)
-              ∙ ap (λ (r : List (Row K)). going (plain_machine.state (streamed_of st) (plain_machine.buffered bf.batches (closing_of bf.closing) (map size_of h.batches) (h.base + h.end) r (drop h.end bf.rows) false false bf.last) (pipe_noted (places_of noted_here)) (counts_of (counted_run n)) v (plain_machine.seeding false))) (sym (none_run h.end (drop h.end bf.rows)))
-              ∙ ap (λ (t : Bool). going (plain_machine.state (streamed_of st) (plain_machine.buffered bf.batches (closing_of bf.closing) (map size_of h.batches) (h.base + h.end) (take (h.end - h.end) (drop h.end bf.rows)) (drop h.end bf.rows) t false bf.last) (pipe_noted (places_of noted_here)) (counts_of (counted_run n)) v (plain_machine.seeding false))) (sym en)) stay,
+              ∙ ap (λ (r : List (Row K)). going (plain_machine.state (streamed_of st) (plain_machine.buffered bf.batches bf.closing (map size_of h.batches) (h.base + h.end) r (drop h.end bf.rows) false false bf.last) (pipe_noted (places_of noted_here)) (counts_of (counted_run n)) v (plain_machine.seeding false))) (sym (none_run h.end (drop h.end bf.rows)))
+              ∙ ap (λ (t : Bool). going (plain_machine.state (streamed_of st) (plain_machine.buffered bf.batches bf.closing (map size_of h.batches) (h.base + h.end) (take (h.end - h.end) (drop h.end bf.rows)) (drop h.end bf.rows) t false bf.last) (pipe_noted (places_of noted_here)) (counts_of (counted_run n)) v (plain_machine.seeding false))) (sym en)) stay,
           record {
             streamed_side = w.streamed_side;
             buffered_side = record { rows_held = b.rows_held; states_held = b.states_held; batches_held = b.batches_held; run = omega arith; in_held = b.in_held; few = b.few; in_table = b.in_table; tiled = b.tiled; reaches = b.reaches };
@@ -255,7 +245,7 @@ module _ {K V : Type 0} (c : Setting K) (fits : V → Record → Bool) (after : 
             block_is = f.exactly (q.frozen ++ judged_all c.asks q.unfrozen) q.due ∙ ap (λ (x : List Entry). block c batch_of f.rest [] x q.due) (append_assoc q.frozen (judged_all c.asks q.unfrozen) f.given)
 
             entries_given : entries given ≡ entries q.unfrozen ++ fixeds f.told
-            entries_given = entries_append c.kind c.asks (judged_all c.asks q.unfrozen) f.given ∙ ap (λ (x : List plain_entry). x ++ entries f.given) (entries_judged c.kind c.asks q.unfrozen) ∙ ap (λ (x : List plain_entry). entries q.unfrozen ++ x) f.given_are
+            entries_given = map-append (entry_of c.kind c.asks) (judged_all c.asks q.unfrozen) f.given ∙ ap (λ (x : List plain_entry). x ++ entries f.given) (entries_judged c.kind c.asks q.unfrozen) ∙ ap (λ (x : List plain_entry). entries q.unfrozen ++ x) f.given_are
 
             past_r : (h.base + r) + (h.end - r) ≡ h.base + h.end
             past_r = omega (arith, f.reaches)
@@ -264,7 +254,7 @@ module _ {K V : Type 0} (c : Setting K) (fits : V → Record → Bool) (after : 
             to_end = omega (arith, f.reaches)
 
             left_state : ℕ → List (Row K) → List (Row K) → Bool → Pipe → plain_machine.Outcome (Row K) SourceFault V
-            left_state first run beyond ended p = going (plain_machine.state (streamed_of st) (plain_machine.buffered bf.batches (closing_of bf.closing) (map size_of (drop k h.batches)) first run beyond ended false bf.last) p (counts_of (counted_run n)) v (plain_machine.seeding false))
+            left_state first run beyond ended p = going (plain_machine.state (streamed_of st) (plain_machine.buffered bf.batches bf.closing (map size_of (drop k h.batches)) first run beyond ended false bf.last) p (counts_of (counted_run n)) v (plain_machine.seeding false))
 
             to_leave : List Mark → Pipe × List ℕ
             to_leave marks = given_by (deferred c) (entries q.unfrozen) (entries q.frozen) (map (oriented c.kind) q.due) (plain_leave (is_full_kind c.kind) h.end h.base (map size_of h.batches) marks (places_of noted_here))
@@ -347,10 +337,10 @@ module _ {K V : Type 0} (c : Setting K) (fits : V → Record → Bool) (after : 
     here = state_at c st bf q n turning v
 
     abbrev at_rows : List (Row K) → plain_machine.Streamed (Row K) SourceFault
-    at_rows r = plain_machine.streamed st.batches (closing_of st.closing) r (st.first + st.at) st.ended st.last
+    at_rows r = plain_machine.streamed st.batches st.closing r (st.first + st.at) st.ended st.last
 
     abbrev at_run : List (Row K) → plain_machine.Buffered (Row K) SourceFault
-    at_run r = plain_machine.buffered bf.batches (closing_of bf.closing) (map size_of bf.holding.batches) (bf.holding.base + bf.holding.start) r (drop bf.holding.end bf.rows) bf.ended bf.holding.matched bf.last
+    at_run r = plain_machine.buffered bf.batches bf.closing (map size_of bf.holding.batches) (bf.holding.base + bf.holding.start) r (drop bf.holding.end bf.rows) bf.ended bf.holding.matched bf.last
 
     abbrev pipe_now : Pipe
     pipe_now = pipe_of c bf.holding.base bf.states q

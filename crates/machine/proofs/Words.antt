@@ -15,14 +15,13 @@ use Rattle.rows.specs.declared.record.Record.{Record}
 use Rattle.rows.specs.declared.row.Row.{Row}
 use Rattle.rows.specs.Order.{Laws}
 use Rattle.sources.specs.declared.fault.SourceFault.{SourceFault}
-use Rattle.sources.specs.declared.source.Closing.{Closing}
-use Rattle.sources.specs.declared.source.Closing.TheVariants.{End, Fault}
+use Rattle.sources.specs.Meaning.{Closing}
 use Rattle.sinks.specs.Meaning.{Led}
 use Rattle.merge.specs.Table.{Distinct, table}
 use Rattle.merge.specs.Runs.{runs}
 use Rattle.merge.specs.Path.{start, tally, one_row, one_run}
 use Rattle.merge.specs.Decided.{Follows}
-use Rattle.merge.specs.Sides.{is_right, streamed_of, buffered_of, left_of, right_of, is_outer, is_full, oriented}
+use Rattle.rows.specs.Sides.{streamed_side, buffered_side, is_right, streamed_of, buffered_of, left_of, right_of, is_outer, is_full, oriented}
 use Rattle.merge.specs.Joined.{Asks, passes, InTable, joined}
 use Rattle.merge.specs.Merging.{by_key}
 use Rattle.merge.proofs.Sides.{oriented_twice, distinct_oriented, perm_map}
@@ -37,10 +36,10 @@ use Rattle.pipeline.specs.Block.{Queued}
 use Rattle.machine.specs.declared.answer.Answer.TheVariants.{More, Waiting, Finished}
 use Rattle.machine.specs.declared.fault.JoinFault.{JoinFault}
 use Rattle.machine.specs.declared.fault.JoinFault.TheVariants.{Unsorted, TableFull, TooManyBatches, TooManyRows, Source}
-use Rattle.machine.specs.Machine.{Setting, Told, Phase, fetching, seeding, extending, closing, turning, passing, done, pairing, stopped, Streamed, Buffered, Counts, Core, core, Turned, last_of, streamed_side, buffered_side, streamed_read, buffered_read, most_handed}
+use Rattle.machine.specs.Machine.{Setting, Told, Phase, fetching, seeding, extending, closing, turning, passing, done, pairing, stopped, Streamed, Buffered, Counts, Core, core, Turned, last_of, streamed_read, buffered_read, most_handed}
 use Rattle.machine.specs.Report.{reported}
 use Rattle.machine.specs.Law.{Log, rows_in, is_over, fails, has_failed, InOrderAfter, answers_of_more, setting, at_opening, Runs, none, turned, MayFollow, Lawful, Law, LawOfRuns}
-use Rattle.machine.proofs.Plain.{fault_of, answer_of, closing_of, phase_of, run_of, plain_setting, state_of, first_of, Whole}
+use Rattle.machine.proofs.Plain.{fault_of, answer_of, phase_of, run_of, plain_setting, state_of, first_of, Whole}
 use Rattle.machine.proofs.Follows.{WholeCore}
 use Rattle.machine.proofs.Fetch.{last_is}
 use Rattle.machine.proofs.Steps.{follows_call}
@@ -48,13 +47,9 @@ use Rattle.machine.proofs.Sound.{Close, Kept, stopped_by, fails_at, call_sound, 
 
 -- ---- small translations
 
-rows_same : {A : Type 0} (l : List (List A)) → rows_in l ≡ plain_law.rows_in l
-rows_same [] = refl
-rows_same {A} (b ∷ l) = ap (λ (r : List A). b ++ r) (rows_same l)
-
-over_same : {A : Type 0} (l : List (List A)) (e : Closing) → is_over l e ≡ plain_law.is_over l (closing_of e)
-over_same [] End = refl
-over_same [] (Fault f) = refl
+over_same : {A : Type 0} (l : List (List A)) (e : Closing) → is_over l e ≡ plain_law.is_over l e
+over_same [] (Ok end) = refl
+over_same [] (Err f) = refl
 over_same (b ∷ l) e = refl
 
 more_same : (kind : Kind) (told : List Told) → answers_of_more told ≡ plain_law.mores (map (answer_of kind) told)
@@ -64,7 +59,7 @@ more_same kind (Ok Waiting ∷ told) = ap (λ (n : ℕ). 0 + n) (more_same kind 
 more_same kind (Ok Finished ∷ told) = ap (λ (n : ℕ). 0 + n) (more_same kind told)
 more_same kind (Err f ∷ told) = ap (λ (n : ℕ). 0 + n) (more_same kind told)
 
-order_same : {K : Type 0} (within : K → K → Ordering) (w : Option (Row K)) (l : List (Row K)) → InOrderAfter within w l → plain_law.GoesOn (by_key within) w l
+order_same : {K : Type 0} (within : K → K → Ordering) (w : Option (Row K)) (l : List (Row K)) → InOrderAfter within w l → plain_law.InOrderAfter (by_key within) w l
 order_same within None l h = h
 order_same within (Some x) l h = h
 
@@ -83,9 +78,9 @@ either : {A B : Type 0} (P : A → B → Type 0) (t : Bool) (a a' : A) (b b' : B
 either P true a a' b b' h k = h
 either P false a a' b b' h k = k
 
-rows_of_side : {A : Type 0} (t : Bool) (l r : List (List A)) → cond t (rows_in l) (rows_in r) ≡ plain_law.rows_in (cond t l r)
-rows_of_side true l r = rows_same l
-rows_of_side false l r = rows_same r
+rows_of_side : {A : Type 0} (t : Bool) (l r : List (List A)) → cond t (rows_in l) (rows_in r) ≡ rows_in (cond t l r)
+rows_of_side true l r = refl
+rows_of_side false l r = refl
 
 -- the fault that stopped a join, by side
 streamed_fails : {K : Type 0} (kind : Kind) (to : ℕ) (ph : Phase K) → plain_law.streamed_failed (phase_of kind to ph) ≡ fails_at (streamed_side kind) ph
@@ -139,7 +134,7 @@ buffered_fails {K} kind to (stopped f) = go kind f
     go kind (Source s g) = refl
 
 -- nothing may follow where the plain machine says so
-over_follows : {A : Type 0} (failed : Bool) (told : Bool) (l : List (List A)) (e : Closing) → (told ≡ true → failed ≡ true) → plain_law.over failed l (closing_of e) ≡ true → (not told && is_over l e) ≡ true
+over_follows : {A : Type 0} (failed : Bool) (told : Bool) (l : List (List A)) (e : Closing) → (told ≡ true → failed ≡ true) → plain_law.over failed l e ≡ true → (not told && is_over l e) ≡ true
 over_follows true told l e h k = absurd (false≢true k)
 over_follows false true l e h k = absurd (false≢true (h refl))
 over_follows false false l e h k = over_same l e ∙ k
@@ -159,14 +154,14 @@ module _ {K V : Type 0} (kind : Kind) (within across : K → K → Ordering) (fi
   abbrev sl : List (List (Row K))
   sl = streamed_of kind lefts.batches rights.batches
 
-  abbrev sc : plain_machine.Closing SourceFault
-  sc = closing_of (streamed_of kind lefts.closing rights.closing)
+  abbrev sc : Closing
+  sc = streamed_of kind lefts.closing rights.closing
 
   abbrev bl : List (List (Row K))
   bl = buffered_of kind lefts.batches rights.batches
 
-  abbrev bc : plain_machine.Closing SourceFault
-  bc = closing_of (buffered_of kind lefts.closing rights.closing)
+  abbrev bc : Closing
+  bc = buffered_of kind lefts.closing rights.closing
 
   abbrev batch_of : ℕ → ℕ
   batch_of = first_of 0 sl
@@ -250,24 +245,20 @@ module _ {K V : Type 0} (kind : Kind) (within across : K → K → Ordering) (fi
     abbrev rr : List (Row K)
     rr = take (right_of kind (streamed_read st) (buffered_read bf)) (rows_in rights.batches)
 
-    side_rows : (t : Bool) (a b : ℕ) (ls rs : List (List (Row K))) → cond t (take (cond t a b) (rows_in rs)) (take (cond t b a) (rows_in ls)) ≡ take a (plain_law.rows_in (cond t rs ls))
-    side_rows true a b ls rs = ap (take a) (rows_same rs)
-    side_rows false a b ls rs = ap (take a) (rows_same ls)
+    side_rows : (t : Bool) (a b : ℕ) (ls rs : List (List (Row K))) → cond t (take (cond t a b) (rows_in rs)) (take (cond t b a) (rows_in ls)) ≡ take a (rows_in (cond t rs ls))
+    side_rows true a b ls rs = refl
+    side_rows false a b ls rs = refl
 
-    other_rows : (t : Bool) (a b : ℕ) (ls rs : List (List (Row K))) → cond t (take (cond t b a) (rows_in ls)) (take (cond t a b) (rows_in rs)) ≡ take b (plain_law.rows_in (cond t ls rs))
-    other_rows true a b ls rs = ap (take b) (rows_same ls)
-    other_rows false a b ls rs = ap (take b) (rows_same rs)
+    rows_s : streamed_of kind lr rr ≡ take (plain_law.streamed_read s₂) (rows_in sl)
+    rows_s = side_rows (is_right kind) (streamed_read st) (buffered_read bf) lefts.batches rights.batches ∙ ap (λ (k : ℕ). take k (rows_in sl)) (sym read_s)
 
-    rows_s : streamed_of kind lr rr ≡ take (plain_law.streamed_read s₂) (plain_law.rows_in sl)
-    rows_s = side_rows (is_right kind) (streamed_read st) (buffered_read bf) lefts.batches rights.batches ∙ ap (λ (k : ℕ). take k (plain_law.rows_in sl)) (sym read_s)
+    rows_b : buffered_of kind lr rr ≡ take (plain_law.buffered_read s₂) (rows_in bl)
+    rows_b = side_rows (is_right kind) (buffered_read bf) (streamed_read st) rights.batches lefts.batches ∙ ap (λ (k : ℕ). take k (rows_in bl)) (sym read_b)
 
-    rows_b : buffered_of kind lr rr ≡ take (plain_law.buffered_read s₂) (plain_law.rows_in bl)
-    rows_b = other_rows (is_right kind) (streamed_read st) (buffered_read bf) lefts.batches rights.batches ∙ ap (λ (k : ℕ). take k (plain_law.rows_in bl)) (sym read_b)
-
-    all_s : streamed_of kind (rows_in lefts.batches) (rows_in rights.batches) ≡ plain_law.rows_in sl
+    all_s : streamed_of kind (rows_in lefts.batches) (rows_in rights.batches) ≡ rows_in sl
     all_s = rows_of_side (is_right kind) rights.batches lefts.batches
 
-    all_b : buffered_of kind (rows_in lefts.batches) (rows_in rights.batches) ≡ plain_law.rows_in bl
+    all_b : buffered_of kind (rows_in lefts.batches) (rows_in rights.batches) ≡ rows_in bl
     all_b = rows_of_side (is_right kind) lefts.batches rights.batches
 
     side_append : (t : Bool) (a a' b b' : List (Row K)) → cond t (a ++ a') (b ++ b') ≡ cond t a b ++ cond t a' b'
@@ -295,36 +286,36 @@ module _ {K V : Type 0} (kind : Kind) (within across : K → K → Ordering) (fi
           let h = sound_runs (streamed_side kind) r in
           either Follows (is_right kind) _ _ r' l m.right_ended m.left_ended
           (streamed_words kind ∙ over_follows (plain_law.streamed_failed (phase_of kind (bf.holding.base + bf.holding.end) ph)) (has_failed (streamed_side kind) told) st.batches (streamed_of kind lefts.closing rights.closing) (λ t. streamed_fails kind _ ph ∙ h.stopped_so t)
-          (ap (λ (z : Closing). plain_law.over (plain_law.streamed_failed (phase_of kind (bf.holding.base + bf.holding.end) ph)) st.batches (closing_of z)) (sym h.closes.0) ∙ e))
+          (ap (λ (z : Closing). plain_law.over (plain_law.streamed_failed (phase_of kind (bf.holding.base + bf.holding.end) ph)) st.batches z) (sym h.closes.0) ∙ e))
 
       follows_b : Follows (plain_law.buffered_over s₂) (buffered_of kind l r')
       follows_b e =
           let h = sound_runs (buffered_side kind) r in
           either Follows (is_right kind) _ _ l r' m.left_ended m.right_ended
           (buffered_words kind ∙ over_follows (plain_law.buffered_failed (phase_of kind (bf.holding.base + bf.holding.end) ph)) (has_failed (buffered_side kind) told) bf.batches (buffered_of kind lefts.closing rights.closing) (λ t. buffered_fails kind _ ph ∙ h.stopped_so t)
-          (ap (λ (z : Closing). plain_law.over (plain_law.buffered_failed (phase_of kind (bf.holding.base + bf.holding.end) ph)) bf.batches (closing_of z)) (sym h.closes.1) ∙ e))
+          (ap (λ (z : Closing). plain_law.over (plain_law.buffered_failed (phase_of kind (bf.holding.base + bf.holding.end) ph)) bf.batches z) (sym h.closes.1) ∙ e))
 
       abbrev OrderedAfter : List (Row K) → List (Row K) → Type 0
       OrderedAfter a b = InOrderAfter within (last_of None a) b
 
-      order_s : plain_law.GoesOn (by_key within) (plain_machine.last_of None (take (plain_law.streamed_read s₂) (plain_law.rows_in sl))) (streamed_of kind l r')
-      order_s = subst (λ z. plain_law.GoesOn (by_key within) z (streamed_of kind l r')) (last_is None (take (plain_law.streamed_read s₂) (plain_law.rows_in sl))) (order_same within (last_of None (take (plain_law.streamed_read s₂) (plain_law.rows_in sl))) (streamed_of kind l r') (subst (λ z. OrderedAfter z (streamed_of kind l r')) rows_s (either OrderedAfter (is_right kind) rr lr r' l m.right_in_order m.left_in_order)))
+      order_s : plain_law.InOrderAfter (by_key within) (plain_machine.last_of None (take (plain_law.streamed_read s₂) (rows_in sl))) (streamed_of kind l r')
+      order_s = subst (λ z. plain_law.InOrderAfter (by_key within) z (streamed_of kind l r')) (last_is None (take (plain_law.streamed_read s₂) (rows_in sl))) (order_same within (last_of None (take (plain_law.streamed_read s₂) (rows_in sl))) (streamed_of kind l r') (subst (λ z. OrderedAfter z (streamed_of kind l r')) rows_s (either OrderedAfter (is_right kind) rr lr r' l m.right_in_order m.left_in_order)))
 
-      order_b : plain_law.GoesOn (by_key within) (plain_machine.last_of None (take (plain_law.buffered_read s₂) (plain_law.rows_in bl))) (buffered_of kind l r')
-      order_b = subst (λ z. plain_law.GoesOn (by_key within) z (buffered_of kind l r')) (last_is None (take (plain_law.buffered_read s₂) (plain_law.rows_in bl))) (order_same within (last_of None (take (plain_law.buffered_read s₂) (plain_law.rows_in bl))) (buffered_of kind l r') (subst (λ z. OrderedAfter z (buffered_of kind l r')) rows_b (either OrderedAfter (is_right kind) lr rr l r' m.left_in_order m.right_in_order)))
+      order_b : plain_law.InOrderAfter (by_key within) (plain_machine.last_of None (take (plain_law.buffered_read s₂) (rows_in bl))) (buffered_of kind l r')
+      order_b = subst (λ z. plain_law.InOrderAfter (by_key within) z (buffered_of kind l r')) (last_is None (take (plain_law.buffered_read s₂) (rows_in bl))) (order_same within (last_of None (take (plain_law.buffered_read s₂) (rows_in bl))) (buffered_of kind l r') (subst (λ z. OrderedAfter z (buffered_of kind l r')) rows_b (either OrderedAfter (is_right kind) lr rr l r' m.left_in_order m.right_in_order)))
 
-      longer_s : streamed_of kind (lr ++ l) (rr ++ r') ≡ take (plain_law.streamed_read s₂) (plain_law.rows_in sl) ++ streamed_of kind l r'
+      longer_s : streamed_of kind (lr ++ l) (rr ++ r') ≡ take (plain_law.streamed_read s₂) (rows_in sl) ++ streamed_of kind l r'
       longer_s = side_append (is_right kind) rr r' lr l ∙ ap (λ (z : List (Row K)). z ++ streamed_of kind l r') rows_s
 
-      longer_b : buffered_of kind (lr ++ l) (rr ++ r') ≡ take (plain_law.buffered_read s₂) (plain_law.rows_in bl) ++ buffered_of kind l r'
+      longer_b : buffered_of kind (lr ++ l) (rr ++ r') ≡ take (plain_law.buffered_read s₂) (rows_in bl) ++ buffered_of kind l r'
       longer_b = side_append (is_right kind) lr l rr r' ∙ ap (λ (z : List (Row K)). z ++ buffered_of kind l r') rows_b
 
       abbrev InLonger : Record → Type 0
       InLonger = InTable kind across filter (lr ++ l) (rr ++ r')
 
-      in_table : (x : Record) → Has (plain_law.joined plain (take (plain_law.streamed_read s₂) (plain_law.rows_in sl) ++ streamed_of kind l r') (take (plain_law.buffered_read s₂) (plain_law.rows_in bl) ++ buffered_of kind l r')) x → InLonger (oriented kind x)
+      in_table : (x : Record) → Has (plain_law.joined plain (take (plain_law.streamed_read s₂) (rows_in sl) ++ streamed_of kind l r') (take (plain_law.buffered_read s₂) (rows_in bl) ++ buffered_of kind l r')) x → InLonger (oriented kind x)
       in_table x h =
-          let h₁ = subst (λ z. Has (plain_law.joined plain z (take (plain_law.buffered_read s₂) (plain_law.rows_in bl) ++ buffered_of kind l r')) x) (sym longer_s) h in
+          let h₁ = subst (λ z. Has (plain_law.joined plain z (take (plain_law.buffered_read s₂) (rows_in bl) ++ buffered_of kind l r')) x) (sym longer_s) h in
           let h₂ = subst (λ z. Has (plain_law.joined plain (streamed_of kind (lr ++ l) (rr ++ r')) z) x) (sym longer_b) h₁ in
           named across filter kind (lr ++ l) (rr ++ r') x (all-has _ (table (passes kind across filter) (is_outer kind) (is_full kind) (streamed_of kind (lr ++ l) (rr ++ r')) (buffered_of kind (lr ++ l) (rr ++ r'))) x (table_only (passes kind across filter) (is_outer kind) (is_full kind) (streamed_of kind (lr ++ l) (rr ++ r')) (buffered_of kind (lr ++ l) (rr ++ r'))) h₂)
 
@@ -337,8 +328,8 @@ module _ {K V : Type 0} (kind : Kind) (within across : K → K → Ordering) (fi
     whole_table : Has told (Ok Finished) → IsPermutation out (joined kind across filter (rows_in lefts.batches) (rows_in rights.batches))
     whole_table h =
         let p = perm_map (oriented kind) (whole_perm plain row_laws sl sc bl bc v₀ fair (map (oriented kind) out) (map (answer_of kind) told) s₂ (follows_runs r).0 (finished h)) in
-        let p₁ = subst (λ z. Permᴰ z (map (oriented kind) (plain_law.joined plain (plain_law.rows_in sl) (plain_law.rows_in bl)))) (twice kind out) p in
-        let p₂ = subst (λ z. Permᴰ out (map (oriented kind) (plain_law.joined plain z (plain_law.rows_in bl)))) (sym all_s) p₁ in
+        let p₁ = subst (λ z. Permᴰ z (map (oriented kind) (plain_law.joined plain (rows_in sl) (rows_in bl)))) (twice kind out) p in
+        let p₂ = subst (λ z. Permᴰ out (map (oriented kind) (plain_law.joined plain z (rows_in bl)))) (sym all_s) p₁ in
         shuffled_from_perm (subst (λ z. Permᴰ out (map (oriented kind) (plain_law.joined plain (streamed_of kind (rows_in lefts.batches) (rows_in rights.batches)) z))) (sym all_b) p₂)
 
     calls : (l : List Record) (a : Told) (s' : Core K) (v' : V) → Turned c fits after s v l a s' v' → (reported kind s').turns ≤ (reported kind s).turns + 1

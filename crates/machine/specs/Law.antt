@@ -1,21 +1,20 @@
 -- The law of runs: what whoever opens a join and works it by turn and report alone finds after every call.
 use Rattle.std.specs.Prelude.{◌≡◌, ℕ, ◌+◌, ◌≤◌, min, Bool, true, false, not, ◌&&◌, ◌||◌, List, [], ◌∷◌, ◌++◌, length, take, Some, None, Ok, Err, Option}
 use Rattle.std.specs.declared.cmp.Ordering.{Ordering}
-use Rattle.std.specs.List.{ContainsAt as Has, AllByRecursion}
+use Rattle.std.specs.List.{ContainsAt as Has, AllByRecursion, flat_map}
 use Rattle.std.specs.List.Sorted.{IsPermutation}
 use Rattle.rows.specs.declared.kind.Kind.{Kind}
 use Rattle.rows.specs.declared.kind.Side.{Side}
 use Rattle.rows.specs.declared.kind.Side.TheVariants.{Left, Right}
 use Rattle.rows.specs.declared.record.Record.{Record}
 use Rattle.rows.specs.declared.row.Row.{Row}
-use Rattle.sources.specs.declared.source.Closing.{Closing}
-use Rattle.sources.specs.declared.source.Closing.TheVariants.{End, Fault}
+use Rattle.sources.specs.Meaning.{Closing}
 use Rattle.sinks.specs.Meaning.{Led}
 use Rattle.merge.specs.Table.{Distinct}
 use Rattle.merge.specs.Runs.{Leads, Sorted, runs}
 use Rattle.merge.specs.Path.{start, tally, one_row, one_run}
 use Rattle.merge.specs.Decided.{Follows}
-use Rattle.merge.specs.Sides.{streamed_of, buffered_of, left_of, right_of, is_outer, is_full}
+use Rattle.rows.specs.Sides.{streamed_of, buffered_of, left_of, right_of, is_outer, is_full}
 use Rattle.merge.specs.Joined.{Asks, lets_through, passes, InTable, joined}
 use Rattle.merge.specs.Merging.{by_key}
 use Rattle.machine.specs.declared.answer.Answer.TheVariants.{More, Waiting, Finished}
@@ -32,13 +31,12 @@ pub record Log (K : Type 0) : Type 0 where
 
 -- all rows of a list of batches
 abbrev pub rows_in : {A : Type 0} → List (List A) → List A
-rows_in [] = []
-rows_in (b ∷ l) = b ++ rows_in l
+rows_in l = flat_map (λ b. b) l
 
 -- the source holds no batch more and answers the end
 abbrev pub is_over : {A : Type 0} → List (List A) → Closing → Bool
-is_over [] End = true
-is_over [] (Fault f) = false
+is_over [] (Ok end) = true
+is_over [] (Err f) = false
 is_over (b ∷ l) e = false
 
 abbrev pub is_side : Side → Side → Bool

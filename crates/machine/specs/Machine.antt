@@ -1,22 +1,19 @@
 -- The join as a machine of small steps, on what the tables, the block, the sources and the join itself hold.
-use Rattle.std.specs.Prelude.{◌≡◌, ℕ, zero, suc, ◌+◌, ◌-◌, min, Bool, true, false, cond, not, ◌&&◌, List, [], ◌∷◌, ◌++◌, length, take, drop, replicate, Some, None, Ok, Err, Option, Result, nat_le, nat_lt}
+use Rattle.std.specs.Prelude.{◌≡◌, ℕ, suc, ◌+◌, ◌-◌, min, Bool, true, false, cond, not, ◌&&◌, List, [], ◌∷◌, ◌++◌, length, take, drop, replicate, Some, None, Ok, Err, Option, Result, nat_le, nat_lt}
 use Rattle.std.specs.declared.cmp.Ordering.TheVariants.{Less, Equal, Greater}
 use Rattle.std.specs.declared.cmp.Ordering.{Ordering}
+use Rattle.std.specs.List.{slice_get}
 use Rattle.rows.specs.Order.{is_after}
 use Rattle.rows.specs.declared.kind.Kind.{Kind}
-use Rattle.rows.specs.declared.kind.Kind.TheVariants.{Inner, Left, Right, Full}
-use Rattle.rows.specs.declared.kind.Side.{Side}
-use Rattle.rows.specs.declared.kind.Side.TheVariants.{Left as on_left, Right as on_right}
 use Rattle.rows.specs.declared.reading.Reading.{Reading}
 use Rattle.rows.specs.declared.record.Record.{Record}
 use Rattle.rows.specs.declared.row.Row.{Row}
-use Rattle.sources.specs.declared.source.Closing.{Closing}
-use Rattle.sources.specs.declared.source.Closing.TheVariants.{End as ended, Fault as faulted}
+use Rattle.sources.specs.Meaning.{Closing}
 use Rattle.pipeline.specs.declared.entry.Entry.{Entry}
 use Rattle.pipeline.specs.declared.batch.BufferedBatch.{BufferedBatch}
 use Rattle.pipeline.specs.declared.states.FilterState.{FilterState}
 use Rattle.pipeline.specs.declared.states.FilterState.TheVariants.{Unvisited}
-use Rattle.merge.specs.Sides.{is_outer, is_full}
+use Rattle.rows.specs.Sides.{streamed_side, buffered_side, is_outer, is_full}
 use Rattle.pipeline.specs.Entries.{lone}
 use Rattle.pipeline.specs.Orient.{streamed_alone}
 use Rattle.pipeline.specs.States.{marking}
@@ -102,23 +99,9 @@ most_batches = 64
 abbrev pub most_handed : ℕ
 most_handed = 18446744073709551615
 
-abbrev pub streamed_side : Kind → Side
-streamed_side Inner = on_left
-streamed_side Left = on_left
-streamed_side Right = on_right
-streamed_side Full = on_left
-
-abbrev pub buffered_side : Kind → Side
-buffered_side Inner = on_right
-buffered_side Left = on_right
-buffered_side Right = on_left
-buffered_side Full = on_right
-
 -- the row at an index
 abbrev pub row_at : {A : Type 0} → ℕ → List A → Option A
-row_at n [] = None
-row_at zero (x ∷ l) = Some x
-row_at (suc n) (x ∷ l) = row_at n l
+row_at n l = slice_get l n
 
 -- the place of the first row, of rows from place k on, that is before its predecessor; `last` is the row before the first
 abbrev pub disorder : {K : Type 0} → (K → K → Ordering) → Option (Row K) → List (Row K) → ℕ → Option ℕ
@@ -211,8 +194,8 @@ module _ {K : Type 0} (c : Setting K) where
   at_end st = record { batches = st.batches; closing = st.closing; first = st.first; rows = st.rows; at = st.at; ended = true; last = st.last }
 
   abbrev pub fetch_from : Bool → List (List (Row K)) → Closing → Streamed K → Buffered K → Queued → Counts → Outcome K
-  fetch_from first [] ended st bf q n = going (core (at_end st) bf q n (after_fetch first))
-  fetch_from first [] (faulted f) st bf q n = stops (Source (streamed_side c.kind) f) st bf q n
+  fetch_from first [] (Ok end) st bf q n = going (core (at_end st) bf q n (after_fetch first))
+  fetch_from first [] (Err f) st bf q n = stops (Source (streamed_side c.kind) f) st bf q n
   fetch_from first ([] ∷ l) e st bf q n = going (core (skipped l st) bf q n (fetching first))
   fetch_from first ((x ∷ r) ∷ l) e st bf q n =
       cond (nat_le (streamed_read st + length (x ∷ r)) most_rows)
@@ -240,8 +223,8 @@ module _ {K : Type 0} (c : Setting K) where
   load_checked (Some k) ph r l st bf q n = stops (Unsorted (buffered_side c.kind) k) st (passed_over l bf) q n
 
   abbrev pub load_from : Outcome K → Phase K → List (List (Row K)) → Closing → Streamed K → Buffered K → Queued → Counts → Outcome K
-  load_from over ph [] ended st bf q n = over
-  load_from over ph [] (faulted f) st bf q n = stops (Source (buffered_side c.kind) f) st bf q n
+  load_from over ph [] (Ok end) st bf q n = over
+  load_from over ph [] (Err f) st bf q n = stops (Source (buffered_side c.kind) f) st bf q n
   load_from over ph ([] ∷ l) e st bf q n = going (core st (passed_over l bf) q n ph)
   load_from over ph ((x ∷ r) ∷ l) e st bf q n =
       cond (nat_le (buffered_read bf + length (x ∷ r)) most_rows)

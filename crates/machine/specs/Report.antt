@@ -2,7 +2,7 @@
 use Rattle.std.specs.Prelude.{List, [], ◌∷◌}
 use Rattle.rows.specs.declared.kind.Kind.{Kind}
 use Rattle.rows.specs.declared.record.Record.{Record}
-use Rattle.merge.specs.Sides.{left_of, right_of}
+use Rattle.rows.specs.Sides.{left_of, right_of}
 use Rattle.machine.specs.declared.answer.State.{State}
 use Rattle.machine.specs.declared.answer.State.TheVariants.{Working, Waiting, Finished, Stopped}
 use Rattle.machine.specs.declared.answer.Report.{Report}

@@ -1,19 +1,20 @@
 ghost use Rattle.std.specs.Prelude.{◌≡◌};
+ghost use Rattle.machine.specs.declared.fault.OpenRefusal.TheVariants.{Kind};
 ghost use Rattle.machine.specs.declared.fault.TurnRefusal.TheVariants.{Stopped};
 ghost use Rattle.machine.specs.Refusals.{open_refusal, join_fault, turn_refusal};
 
-use rows::kind::Side;
+use rows::kind::{Side, UnknownKind};
 use sources::fault::SourceFault;
 
 // Why no join was opened.
 #[derive(Clone, Copy, PartialEq, Eq, Debug)]
 pub enum OpenRefusal {
     // no kind has the number
-    Kind,
+    Kind = 1,
     // the batch size lies outside 1 to 8,192
-    BatchSize,
+    BatchSize = 2,
     // a table lies outside 1 to 65,535 rows, or the block is shorter than batch size plus buffered table
-    Memory,
+    Memory = 3,
 }
 
 // What stops a join.
@@ -44,11 +45,15 @@ impl OpenRefusal {
     pub fn number(&self) -> u8
         ensures { result ≡ (open_refusal self.now).number }
     {
-        match *self {
-            OpenRefusal::Kind => 1,
-            OpenRefusal::BatchSize => 2,
-            OpenRefusal::Memory => 3,
-        }
+        *self as u8
+    }
+}
+
+impl From<UnknownKind> for OpenRefusal {
+    ghost from_gives = { λ e r. r ≡ Kind };
+
+    fn from(_: UnknownKind) -> OpenRefusal {
+        OpenRefusal::Kind
     }
 }
 
