@@ -4,16 +4,12 @@ use Rattle.std.specs.Prelude.{◌≡◌, ◌≤◌, refl}
 use Rattle.std.specs.declared.cmp.Ordering.TheVariants.{Less, Equal, Greater}
 use Rattle.std.specs.declared.cmp.Ordering.{Ordering}
 use Rattle.std.proofs.Common.{sym, ap, subst, ◌∙◌, arith}
+use Rattle.std.specs.Cmp.{then_flip}
 use Rattle.std.specs.Ordering.{ordering_then}
 use Rattle.rows.specs.Order.{rank, turned, Rises, Laws}
 use Rattle.orders.specs.Values.{Total}
 use Rattle.orders.specs.Chain.{chained}
 use Rattle.orders.specs.TotalLaws.{total_of, rank_most, rises_same, rises_back, rises_both}
-
-then_turned : (o q : Ordering) → ordering_then (turned o) (turned q) ≡ turned (ordering_then o q)
-then_turned Less q = refl
-then_turned Equal q = refl
-then_turned Greater q = refl
 
 then_first : (o q : Ordering) → rank (ordering_then o q) ≤ 1 → rank o ≤ 1
 then_first Less q h = omega arith
@@ -84,7 +80,7 @@ module _ {K : Type 0} (within₁ across₁ within₂ across₂ : K → K → Ord
   -- a chain of two orders on one kind of key is an order
   pub chain_laws : Laws (chained within₁ within₂) (chained across₁ across₂)
   chain_laws = record {
-    turns_round = λ a b. ap (λ o. ordering_then o (within₂ b a)) (l₁.turns_round a b) ∙ ap (ordering_then (turned (within₁ a b))) (l₂.turns_round a b) ∙ then_turned (within₁ a b) (within₂ a b);
+    turns_round = λ a b. ap (λ o. ordering_then o (within₂ b a)) (l₁.turns_round a b) ∙ ap (ordering_then (turned (within₁ a b))) (l₂.turns_round a b) ∙ then_flip (within₁ a b) (within₂ a b);
     passes_on = passes;
     rises_streamed = rises;
     falls_buffered = falls;

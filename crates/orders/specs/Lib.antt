@@ -1,4 +1,5 @@
 pub mod Values
+pub mod Names
 pub mod Choices
 pub mod Chain
 pub mod KeyOrders

@@ -1,25 +1,19 @@
--- Proofs that numbers and lists of bytes keep what a column asks of its values. They stand in specs/ because a column gives
--- the proof as a member; their statements say all that they do.
-use Rattle.std.specs.Prelude.{◌≡◌, ℕ, ◌≤◌, List, [], ◌∷◌, refl}
+-- Proofs that numbers and lists of bytes keep what a column asks of its values. They stand in specs/ because an order gives the
+-- proof of its laws as a member; their statements say all that they do.
+use Rattle.std.specs.Prelude.{◌≡◌, ℕ, ◌≤◌, List, refl}
 use Rattle.std.specs.declared.cmp.Ordering.TheVariants.{Less, Equal, Greater}
 use Rattle.std.specs.declared.cmp.Ordering.{Ordering}
-use Rattle.std.proofs.Common.{sym, ap, subst, ◌∙◌, arith}
+use Rattle.std.proofs.Common.{sym, subst, ◌∙◌, arith}
 use Rattle.std.specs.Cmp as keys
 use Rattle.std.specs.Cmp.{nat_cmp_total, alike_right}
-use Rattle.std.specs.Cmp.Lexicographic.{slice_cmp, lists_total}
-use Rattle.std.specs.Ordering.{ordering_reverse, ordering_then}
-use Rattle.rows.specs.Order.{rank, turned}
+use Rattle.std.specs.Cmp.Lexicographic.{slice_cmp, nat_list_cmp_total}
+use Rattle.std.specs.Ordering.{nat_cmp}
+use Rattle.rows.specs.Order.{rank}
 use Rattle.orders.specs.Values.{Total, by_size, by_bytes}
-use Rattle.std.specs.Ordering as std_orderings
-
-reversed_turned : (o : Ordering) → ordering_reverse o ≡ turned o
-reversed_turned Less = refl
-reversed_turned Equal = refl
-reversed_turned Greater = refl
 
 -- what the standard library calls a total order is one here
-total_from : {V : Type 0} {R : V → V → Ordering} → keys.IsTotalOrder R → Total R
-total_from {V} {R} o = record { turns_round = λ x y. o.antisymm y x ∙ reversed_turned (R x y); passes_on = λ x y z h k. go x y z (R x y) (R y z) refl refl h k }
+pub total_from : {V : Type 0} {R : V → V → Ordering} → keys.IsTotalOrder R → Total R
+total_from {V} {R} o = record { turns_round = λ x y. o.antisymm y x; passes_on = λ x y z h k. go x y z (R x y) (R y z) refl refl h k }
   where
     go : (x y z : V) (p q : Ordering) → R x y ≡ p → R y z ≡ q → rank p ≤ 1 → rank q ≤ 1 → rank (R x z) ≤ 1
     go x y z Less Less e f h k = subst (λ r. rank r ≤ 1) (sym (o.trans x y z e f)) h
@@ -31,16 +25,8 @@ total_from {V} {R} o = record { turns_round = λ x y. o.antisymm y x ∙ reverse
 pub by_size_total : Total by_size
 by_size_total = total_from nat_cmp_total
 
-pub by_bytes_lex : (xs ys : List ℕ) → slice_cmp std_orderings.nat_cmp xs ys ≡ by_bytes xs ys
-by_bytes_lex [] [] = refl
-by_bytes_lex [] (y ∷ ys) = refl
-by_bytes_lex (x ∷ xs) [] = refl
-by_bytes_lex (x ∷ xs) (y ∷ ys) = ap (ordering_then (by_size x y)) (by_bytes_lex xs ys)
+pub by_bytes_lex : (xs ys : List ℕ) → slice_cmp nat_cmp xs ys ≡ by_bytes xs ys
+by_bytes_lex xs ys = refl
 
 pub by_bytes_total : Total by_bytes
-by_bytes_total =
-    let t : Total (slice_cmp std_orderings.nat_cmp) = total_from (lists_total nat_cmp_total) in
-    record {
-      turns_round = λ xs ys. sym (by_bytes_lex ys xs) ∙ t.turns_round xs ys ∙ ap turned (by_bytes_lex xs ys);
-      passes_on = λ xs ys zs h k. subst (λ o. rank o ≤ 1) (by_bytes_lex xs zs) (t.passes_on xs ys zs (subst (λ o. rank o ≤ 1) (sym (by_bytes_lex xs ys)) h) (subst (λ o. rank o ≤ 1) (sym (by_bytes_lex ys zs)) k));
-    }
+by_bytes_total = total_from nat_list_cmp_total

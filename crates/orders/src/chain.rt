@@ -18,19 +18,17 @@ impl<P: KeyOrder, Q: KeyOrder<Key = P::Key>> KeyOrder for Chain<P, Q> {
 
     ghost across = { λ o. chained (P.KeyOrder.across o.first) (Q.KeyOrder.across o.second) };
 
-    ghost lawful = { λ o. chain_laws (P.KeyOrder.within o.first) (P.KeyOrder.across o.first) (Q.KeyOrder.within o.second) (Q.KeyOrder.across o.second) (P.KeyOrder.lawful o.first) (Q.KeyOrder.lawful o.second) };
-
     fn compare_within(&self, a: &P::Key, b: &P::Key) -> Ordering {
-        match self.first.compare_within(a, b) {
-            Ordering::Equal => self.second.compare_within(a, b),
-            other => other,
-        }
+        self.first
+            .compare_within(a, b)
+            .then_with(|| self.second.compare_within(a, b))
     }
 
     fn compare_across(&self, streamed: &P::Key, buffered: &P::Key) -> Ordering {
-        match self.first.compare_across(streamed, buffered) {
-            Ordering::Equal => self.second.compare_across(streamed, buffered),
-            other => other,
-        }
+        self.first
+            .compare_across(streamed, buffered)
+            .then_with(|| self.second.compare_across(streamed, buffered))
     }
+
+    ghost lawful = { λ o. chain_laws (P.KeyOrder.within o.first) (P.KeyOrder.across o.first) (Q.KeyOrder.within o.second) (Q.KeyOrder.across o.second) (P.KeyOrder.lawful o.first) (Q.KeyOrder.lawful o.second) };
 }

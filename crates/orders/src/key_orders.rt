@@ -50,8 +50,6 @@ impl KeyOrder for FrameOrder {
 
     ghost across = { λ o. frame_across o.node o.number };
 
-    ghost lawful = { λ o. frame_laws o.node o.number };
-
     fn compare_within(&self, a: &FrameKey, b: &FrameKey) -> Ordering {
         self.chain().compare_within(a, b)
     }
@@ -59,6 +57,8 @@ impl KeyOrder for FrameOrder {
     fn compare_across(&self, streamed: &FrameKey, buffered: &FrameKey) -> Ordering {
         self.chain().compare_across(streamed, buffered)
     }
+
+    ghost lawful = { λ o. frame_laws o.node o.number };
 }
 
 // The order of label keys: the one column that they have.
@@ -91,8 +91,6 @@ impl KeyOrder for LabelOrder {
 
     ghost across = { λ o. label_across o.label };
 
-    ghost lawful = { λ o. label_laws o.label };
-
     fn compare_within(&self, a: &LabelKey, b: &LabelKey) -> Ordering {
         self.column().compare_within(a, b)
     }
@@ -100,4 +98,6 @@ impl KeyOrder for LabelOrder {
     fn compare_across(&self, streamed: &LabelKey, buffered: &LabelKey) -> Ordering {
         self.column().compare_across(streamed, buffered)
     }
+
+    ghost lawful = { λ o. label_laws o.label };
 }

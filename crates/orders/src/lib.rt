@@ -6,4 +6,3 @@ pub mod choices;
 pub mod column;
 pub mod key_columns;
 pub mod key_orders;
-pub mod label;
