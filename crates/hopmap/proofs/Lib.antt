@@ -1,2 +1,0 @@
-mod Fetches
-mod Made

@@ -1,23 +1,15 @@
 -- Batches that are fetched one by one from a source.
-use Rattle.std.specs.Prelude.{List, [], ◌∷◌, ◌++◌, length}
-use Rattle.sources.specs.declared.source.Closing.{Closing}
-use Rattle.hopmap.specs.declared.fetch.Fetched.{Fetched}
-use Rattle.hopmap.specs.declared.fetch.Fetched.TheVariants.{Batch, Closed}
+use Rattle.std.specs.Prelude.{List, [], ◌∷◌, ◌++◌}
 
--- what comes of a source that has these batches left and closes so
-abbrev pub fetched : {A : Type 0} → List (List A) → Closing → Fetched
-fetched [] close = Closed close
-fetched (batch ∷ left) close = Batch (length batch)
-
--- the batch fetched, no rows where there is none
-abbrev pub first : {A : Type 0} → List (List A) → List A
-first [] = []
-first (batch ∷ left) = batch
-
--- the batches left after it
+-- the batches left after the first
 abbrev pub rest : {A : Type 0} → List (List A) → List (List A)
 rest [] = []
 rest (batch ∷ left) = left
+
+-- what a memory holds after a fetch: the batch that came, or, where none did, what it held
+abbrev pub held_after : {A : Type 0} → List (List A) → List A → List A
+held_after [] memory = memory
+held_after (batch ∷ left) memory = batch
 
 -- the rows of all batches
 abbrev pub all_rows : {A : Type 0} → List (List A) → List A

@@ -1,11 +1,10 @@
 -- The lines that the program prints, as the bytes of their texts.
-use Rattle.std.specs.Prelude.{ℕ, List, [], ◌∷◌, Some, None, codes, Option}
+use Rattle.std.specs.Prelude.{ℕ, List, [], ◌∷◌, Some, None, Ok, Err, codes, Option}
 use Rattle.rows.specs.Texts as text
 use Rattle.rows.specs.Texts.{line, words, count, side_text}
 use Rattle.sources.specs.declared.fault.SourceFault.{SourceFault}
 use Rattle.sources.specs.declared.fault.SourceFault.TheVariants.{NoHeader, BadCommand, RunsOut, BadPresence}
-use Rattle.sources.specs.declared.source.Closing.{Closing}
-use Rattle.sources.specs.declared.source.Closing.TheVariants.{End, Fault as Faulted}
+use Rattle.sources.specs.Meaning.{Closing}
 use Rattle.sources.specs.Faults.{number_of, layer_of, place_of}
 use Rattle.hopmap.specs.declared.lines.BatchLine.{BatchLine}
 use Rattle.hopmap.specs.declared.lines.GradeLine.{GradeLine}
@@ -33,8 +32,8 @@ abbrev pub fault_text : SourceFault → Option (List ℕ)
 fault_text f = line (words "fault " ∷ count (number_of f) ∷ words " layer " ∷ count (layer_of f) ∷ words " place " ∷ count (place_of f) ∷ words ": " ∷ Some (fault_words f) ∷ [])
 
 abbrev pub closing_text : Closing → Option (List ℕ)
-closing_text End = words "the end"
-closing_text (Faulted f) = fault_text f
+closing_text (Ok end) = words "the end"
+closing_text (Err f) = fault_text f
 
 -- 2 batches, 2 rows, then the end
 abbrev pub summary_text : Summary → Option (List ℕ)

@@ -3,7 +3,7 @@ use Rattle.std.specs.Prelude.{ℕ, List}
 use Rattle.std.specs.declared.cmp.Ordering.{Ordering}
 use Rattle.std.specs.Option.{unwrap_or}
 use Rattle.rows.specs.declared.row.Row.{Row}
-use Rattle.sources.specs.declared.source.Closing.{Closing}
+use Rattle.sources.specs.Meaning.{Closing}
 use Rattle.sources.specs.Keys.{frames, labels}
 use Rattle.sources.specs.Log.{log_closing}
 use Rattle.hopmap.specs.declared.key_kinds.LogKind.{LogKind}

@@ -1,6 +1,6 @@
 -- How much comes of a source, and how it closes.
 use Rattle.std.specs.Prelude.{List}
-use Rattle.sources.specs.declared.source.Closing.{Closing}
+use Rattle.sources.specs.Meaning.{Closing}
 use Rattle.hopmap.specs.declared.lines.Summary.{Summary}
 use Rattle.hopmap.specs.Totals.{totals_of}
 

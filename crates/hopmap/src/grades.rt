@@ -3,8 +3,8 @@ ghost use Rattle.hopmap.specs.Fetching.{all_rows};
 ghost use Rattle.hopmap.specs.Summaries.{summary_of};
 ghost use Rattle.hopmap.specs.GradeCounts.{no_rows, counted, counted_rows, grades_of};
 
-use crate::fetch::{Fetched, fetch};
-use crate::key_kinds::{BLANK_FRAME, BLANK_LABEL, LogKind, told_kind};
+use crate::fetch::fetch;
+use crate::key_kinds::{LogKind, told_kind};
 use crate::lines::Summary;
 use crate::totals::Totals;
 use filters::grade::grade;
@@ -63,25 +63,25 @@ impl GradeCounts {
 fn count_source<S: Source>(
     heap: Global,
     source: &mut S,
-    blank: Row<S::Key>,
 ) -> Result<(GradeCounts, Summary), AllocError>
 where
-    S::Key: Copy + Clone,
+    S::Key: Copy + Default,
     ensures { IfOk result (λ found. found ≡ (counted_rows no_rows (all_rows (S.Source.batches source.old)), summary_of (S.Source.batches source.old) (S.Source.closing source.old))) }
 {
-    let mut memory = Vec::new(heap);
+    let mut batch = Vec::new(heap);
     let mut counts = GradeCounts::none();
     let mut totals = Totals::none();
-    loop {
-        match fetch(source, &mut memory, blank)? {
-            Fetched::Batch(n) => {
-                let batch = &memory[0..n];
-                counts = counts.and_rows(batch);
+    let closing = loop {
+        match fetch(source, &mut batch)? {
+            Ok(Some(n)) => {
+                counts = counts.and_rows(&batch);
                 totals = totals.and_batch(n);
             }
-            Fetched::Closed(closing) => return Ok((counts, Summary { totals, closing })),
+            Ok(None) => break Ok(()),
+            Err(fault) => break Err(fault),
         }
-    }
+    };
+    Ok((counts, Summary { totals, closing }))
 }
 
 // Counts the rows of a log by grade. A log that tells no kind of key has the same fault for either.
@@ -89,7 +89,7 @@ pub fn count_grades(heap: Global, bytes: &[u8]) -> Result<(GradeCounts, Summary)
     ensures { IfOk result (λ found. found ≡ grades_of bytes.now) }
 {
     match told_kind(bytes).unwrap_or(LogKind::Frame) {
-        LogKind::Label => count_source(heap, &mut Log::new(bytes, Labels), BLANK_LABEL),
-        LogKind::Frame => count_source(heap, &mut Log::new(bytes, Frames), BLANK_FRAME),
+        LogKind::Label => count_source(heap, &mut Log::new(bytes, Labels)),
+        LogKind::Frame => count_source(heap, &mut Log::new(bytes, Frames)),
     }
 }

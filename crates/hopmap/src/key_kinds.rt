@@ -1,9 +1,11 @@
 ghost use Rattle.std.specs.Prelude.{◌≡◌};
 ghost use Rattle.hopmap.specs.KeyKinds.{told};
+ghost use Rattle.hopmap.specs.declared.settings.Settings.{Settings as SettingsOf};
 
-use rows::key::{FrameKey, LabelKey};
-use rows::reading::Reading;
-use rows::row::Row;
+use crate::settings::Settings;
+use orders::key_orders::{FrameOrder, LabelOrder};
+use rows::order::KeyOrder;
+use sources::kind::{Frames, KeyKind, Labels};
 
 // The kinds of key that a log can have.
 #[derive(Clone, Copy, PartialEq, Eq, Debug)]
@@ -23,22 +25,33 @@ pub fn told_kind(bytes: &[u8]) -> Option<LogKind>
     }
 }
 
-const NO_READING: Reading = Reading {
-    moment: 0,
-    level: 0,
-    receiver: 0,
-};
+// A kind of key whose logs are shown and joined: how its keys are read, and how they are ordered.
+pub trait LogKey: KeyKind + Copy {
+    type Order: KeyOrder<Key = Self::Key> + Drop;
 
-// A row that stands in a memory before a row of a log is taken into it.
-pub const BLANK_FRAME: Row<FrameKey> = Row {
-    key: FrameKey {
-        node: 0,
-        number: None,
-    },
-    reading: NO_READING,
-};
+    ghost ordered: { SettingsOf → Self.Order };
 
-pub const BLANK_LABEL: Row<LabelKey> = Row {
-    key: LabelKey { label: None },
-    reading: NO_READING,
-};
+    // The order that the settings ask for.
+    fn order(settings: &Settings) -> Self::Order
+        ensures { result ≡ ordered settings.now };
+}
+
+impl LogKey for Frames {
+    type Order = FrameOrder;
+
+    ghost ordered = { λ s. record { node = s.choices.direction; number = s.choices } };
+
+    fn order(settings: &Settings) -> FrameOrder {
+        FrameOrder::new(settings.choices.direction, settings.choices)
+    }
+}
+
+impl LogKey for Labels {
+    type Order = LabelOrder;
+
+    ghost ordered = { λ s. record { label = s.choices } };
+
+    fn order(settings: &Settings) -> LabelOrder {
+        LabelOrder::new(settings.choices)
+    }
+}

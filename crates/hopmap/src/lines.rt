@@ -81,8 +81,8 @@ impl fmt::Display for ClosingText {
 
     fn fmt<W: fmt::Write>(&self, f: &mut fmt::Formatter<W>) -> fmt::Result {
         match self.0 {
-            Closing::End => f.write_str("the end"),
-            Closing::Fault(fault) => FaultText(fault).fmt(f),
+            Ok(()) => f.write_str("the end"),
+            Err(fault) => FaultText(fault).fmt(f),
         }
     }
 }

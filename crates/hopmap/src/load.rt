@@ -1,7 +1,7 @@
 ghost use Rattle.std.specs.Prelude.{◌≡◌, IfOk};
 ghost use Rattle.hopmap.specs.Fetching.{all_rows};
 
-use crate::fetch::{Fetched, fetch};
+use crate::fetch::fetch;
 use rows::row::Row;
 use sources::source::{Closing, Source};
 use std::alloc::{AllocError, Global};
@@ -14,25 +14,20 @@ pub struct Loaded<K: Drop> {
 }
 
 // Takes all batches of a source.
-pub fn load<S: Source>(
-    heap: Global,
-    source: &mut S,
-    blank: Row<S::Key>,
-) -> Result<Loaded<S::Key>, AllocError>
+pub fn load<S: Source>(heap: Global, source: &mut S) -> Result<Loaded<S::Key>, AllocError>
 where
-    S::Key: Copy + Clone,
+    S::Key: Copy + Default,
     ensures rows { IfOk result (λ loaded. loaded.rows.items ≡ all_rows (S.Source.batches source.old)) }
     ensures closing { IfOk result (λ loaded. loaded.closing ≡ S.Source.closing source.old) }
 {
-    let mut memory = Vec::new(heap);
+    let mut batch = Vec::new(heap);
     let mut rows = Vec::new(heap);
-    loop {
-        match fetch(source, &mut memory, blank)? {
-            Fetched::Batch(n) => {
-                let batch = &memory[0..n];
-                rows.extend_from_slice(batch)?;
-            }
-            Fetched::Closed(closing) => return Ok(Loaded { rows, closing }),
+    let closing = loop {
+        match fetch(source, &mut batch)? {
+            Ok(Some(_)) => rows.extend_from_slice(&batch)?,
+            Ok(None) => break Ok(()),
+            Err(fault) => break Err(fault),
         }
-    }
+    };
+    Ok(Loaded { rows, closing })
 }

@@ -28,8 +28,8 @@ use std::{env, fs, io};
 // Status 0 where a log ends as it should, and 1 where it has a fault.
 fn exit_of(closing: Closing) -> ExitCode {
     match closing {
-        Closing::End => ExitCode::SUCCESS,
-        Closing::Fault(_) => ExitCode::FAILURE,
+        Ok(()) => ExitCode::SUCCESS,
+        Err(_) => ExitCode::FAILURE,
     }
 }
 

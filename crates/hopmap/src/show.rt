@@ -1,13 +1,13 @@
 ghost use Rattle.std.specs.Prelude.{◌≡◌, IfOk};
+ghost use Rattle.sources.specs.Log.{log_closing};
 ghost use Rattle.hopmap.specs.Shows.{shown_of, closing_of};
 
-use crate::fetch::{Fetched, fetch};
-use crate::key_kinds::{BLANK_FRAME, BLANK_LABEL, LogKind, told_kind};
+use crate::fetch::fetch;
+use crate::key_kinds::{LogKey, LogKind, told_kind};
 use crate::lines::{BatchLine, RowLine, SequenceLine, Summary};
 use crate::sequence::Sequence;
 use crate::settings::Settings;
 use crate::totals::Totals;
-use orders::key_orders::{FrameOrder, LabelOrder};
 use rows::order::KeyOrder;
 use rows::row::Row;
 use sources::clock::Clock;
@@ -19,17 +19,18 @@ use std::fmt::Display;
 use std::io;
 use std::io::Write;
 
-// Writes a line for each row, from a place on.
-fn show_rows<K: Copy + Clone + Display, W: Write>(
+// Writes a line for each row; the first has this place.
+fn show_rows<K: Copy + Display, W: Write>(
     out: &mut W,
-    place: u64,
+    first: u64,
     rows: &[Row<K>],
 ) -> io::Result<()> {
-    let mut place = place;
-    for row in rows {
-        let line = RowLine { place, row: *row };
+    for (i, row) in rows.iter().enumerate() {
+        let line = RowLine {
+            place: first.saturating_add(i as u64),
+            row: *row,
+        };
         writeln!(out, "{line}")?;
-        place = place.saturating_add(1);
     }
     Ok(())
 }
@@ -48,54 +49,52 @@ fn show_source<S: Source, O: KeyOrder<Key = S::Key>, W: Write>(
     out: &mut W,
     source: &mut S,
     order: &O,
-    blank: Row<S::Key>,
 ) -> io::Result<Shown>
 where
-    S::Key: Copy + Clone + Display,
+    S::Key: Copy + Default + Display,
     ensures { IfOk result (λ shown. shown ≡ shown_of (O.KeyOrder.within order.now) (S.Source.batches source.old) (S.Source.closing source.old)) }
 {
-    let mut memory = Vec::new(heap);
+    let mut batch = Vec::new(heap);
     let mut totals = Totals::none();
     let mut sequence = Sequence::new();
-    loop {
-        match fetch(source, &mut memory, blank)? {
-            Fetched::Batch(n) => {
+    let closing = loop {
+        match fetch(source, &mut batch)? {
+            Ok(Some(n)) => {
                 let line = BatchLine {
                     number: totals.batches,
                     rows: n,
                 };
                 writeln!(out, "{line}")?;
-                let batch = &memory[0..n];
-                show_rows(out, totals.rows, batch)?;
-                sequence = sequence.and_rows(order, batch);
+                show_rows(out, totals.rows, &batch)?;
+                sequence = sequence.and_rows(order, &batch);
                 totals = totals.and_batch(n);
             }
-            Fetched::Closed(closing) => {
-                let summary = Summary { totals, closing };
-                writeln!(out, "{summary}")?;
-                let broken = sequence.broken();
-                return Ok(Shown { summary, broken });
-            }
+            Ok(None) => break Ok(()),
+            Err(fault) => break Err(fault),
         }
-    }
+    };
+    let summary = Summary { totals, closing };
+    writeln!(out, "{summary}")?;
+    Ok(Shown {
+        summary,
+        broken: sequence.broken(),
+    })
 }
 
-// Shows a source with its moments moved, and last whether its rows are in key order.
-fn show_moved<S: Source, O: KeyOrder<Key = S::Key>, W: Write>(
+// Shows a log of a kind of key with its moments moved, and last whether its rows are in key order.
+fn show_log<L: LogKey, W: Write>(
     heap: Global,
     out: &mut W,
-    source: S,
-    clock: i32,
-    order: &O,
-    blank: Row<S::Key>,
+    kind: L,
+    bytes: &[u8],
+    settings: &Settings,
 ) -> io::Result<Closing>
 where
-    S: Drop,
-    S::Key: Copy + Clone + Display,
-    ensures { IfOk result (λ closing. closing ≡ S.Source.closing source) }
+    L::Key: Default + Display,
+    ensures { IfOk result (λ closing. closing ≡ log_closing L.layout bytes.now) }
 {
-    let mut moved = Clock::new(source, clock);
-    let shown = show_source(heap, out, &mut moved, order, blank)?;
+    let mut moved = Clock::new(Log::new(bytes, kind), settings.clock);
+    let shown = show_source(heap, out, &mut moved, &L::order(settings))?;
     let line = SequenceLine(shown.broken);
     writeln!(out, "{line}")?;
     Ok(shown.summary.closing)
@@ -113,33 +112,17 @@ pub fn show<W: Write>(
     match told_kind(bytes) {
         Some(LogKind::Frame) => {
             writeln!(out, "frame log")?;
-            let order = FrameOrder::new(settings.choices.direction, settings.choices);
-            show_moved(
-                heap,
-                out,
-                Log::new(bytes, Frames),
-                settings.clock,
-                &order,
-                BLANK_FRAME,
-            )
+            show_log(heap, out, Frames, bytes, settings)
         }
         Some(LogKind::Label) => {
             writeln!(out, "label log")?;
-            let order = LabelOrder::new(settings.choices);
-            show_moved(
-                heap,
-                out,
-                Log::new(bytes, Labels),
-                settings.clock,
-                &order,
-                BLANK_LABEL,
-            )
+            show_log(heap, out, Labels, bytes, settings)
         }
         None => {
             writeln!(out, "no log")?;
             // read for either kind of key, it has the same fault
-            let order = FrameOrder::new(settings.choices.direction, settings.choices);
-            let shown = show_source(heap, out, &mut Log::new(bytes, Frames), &order, BLANK_FRAME)?;
+            let mut log = Log::new(bytes, Frames);
+            let shown = show_source(heap, out, &mut log, &Frames::order(settings))?;
             Ok(shown.summary.closing)
         }
     }

@@ -4,7 +4,7 @@ use mathlib.Core.List.{nil≢cons}
 use mathlib.Core.Bool.{false≢true}
 use Rattle.std.specs.List.{ContainsAt as Has, AllByRecursion}
 use Rattle.std.proofs.ByRecursion.{All-weaker, All-push}
-use Rattle.std.proofs.lemmas.Bool.{and_parts, or_right, leb-true}
+use Rattle.std.proofs.lemmas.Bool.{and_parts, or_right, leb-true, cond_both}
 use Rattle.rows.specs.Order.{Laws, rank, is_same}
 use Rattle.merge.specs.Table.{when, meets_buffered, meets_streamed, pairs_of, lone_buffered}
 use Rattle.merge.specs.Runs.{Sorted, runs}
@@ -790,8 +790,7 @@ module _ {X F V : Type 0} (c : Setting X V) (laws : Laws c.within c.across) (sl 
 
   module _ (out : List Record) (mores cap : ℕ) where
     kept_cond : (t : Bool) (a b : Outcome X F V) → (t ≡ true → Kept out mores cap a) → (t ≡ false → Kept out mores cap b) → Kept out mores cap (cond t a b)
-    kept_cond true a b h k = h refl
-    kept_cond false a b h k = k refl
+    kept_cond t a b h k = cond_both t a b (Kept out mores cap) h k
 
     kept_stop : (f : Fault F) (g : Ghost X) (st : Streamed X F) (bf : Buffered X F) (p : Pipe) (n : Counts) (v : V) (a b : ℕ)
         → Core g out st bf p n v (streamed_failed {X = X} (stopped f)) (buffered_failed {X = X} (stopped f)) → Budget mores cap (n_turns n) a b → g.group ≡ [] → Kept out mores cap (stops c f st bf p n v)

@@ -10,7 +10,7 @@ use Rattle.merge.specs.Path.{tally, one_row, one_run, start}
 use Rattle.merge.specs.Decided.{Follows}
 use Rattle.rows.specs.declared.record.Record.{Record}
 use Rattle.law.specs.Pipe.{pipe}
-use Rattle.law.specs.Machine.{Setting, on_streamed, on_buffered, Closing, disordered, oversized, overlong, crowded, from_source, Answer, more, waiting, finished, failed, Phase, fetching, seeding, extending, closing, turning, passing, done, pairing, stopped, streamed, buffered, counts, State, state, Turned, opened, last_of, most_handed}
+use Rattle.law.specs.Machine.{Setting, Side, on_streamed, on_buffered, Closing, disordered, oversized, overlong, crowded, from_source, Answer, more, waiting, finished, failed, Phase, fetching, seeding, extending, closing, turning, passing, done, pairing, stopped, streamed, buffered, counts, State, state, Turned, opened, last_of, most_handed}
 
 -- all rows of a list of batches
 abbrev pub rows_in : {X : Type 0} → List (List X) → List X
@@ -22,38 +22,33 @@ is_over [] (Ok end) = true
 is_over [] (Err f) = false
 is_over (b ∷ l) e = false
 
--- a batch of the streamed (buffered) side failed
+abbrev pub is_side : Side → Side → Bool
+is_side on_streamed on_streamed = true
+is_side on_streamed on_buffered = false
+is_side on_buffered on_streamed = false
+is_side on_buffered on_buffered = true
+
+-- a batch of the side failed
+abbrev pub failed_on : {X F : Type 0} → Side → Phase X F → Bool
+failed_on side (stopped (disordered s k)) = is_side side s
+failed_on side (stopped (oversized s k)) = false
+failed_on side (stopped (overlong s k)) = false
+failed_on side (stopped (crowded k)) = false
+failed_on side (stopped (from_source s f)) = false
+failed_on side (fetching f) = false
+failed_on side (seeding f) = false
+failed_on side (extending f) = false
+failed_on side (closing f) = false
+failed_on side turning = false
+failed_on side passing = false
+failed_on side done = false
+failed_on side (pairing todo j) = false
+
 abbrev pub streamed_failed : {X F : Type 0} → Phase X F → Bool
-streamed_failed (stopped (disordered on_streamed k)) = true
-streamed_failed (stopped (disordered on_buffered k)) = false
-streamed_failed (stopped (oversized s k)) = false
-streamed_failed (stopped (overlong s k)) = false
-streamed_failed (stopped (crowded k)) = false
-streamed_failed (stopped (from_source s f)) = false
-streamed_failed (fetching f) = false
-streamed_failed (seeding f) = false
-streamed_failed (extending f) = false
-streamed_failed (closing f) = false
-streamed_failed turning = false
-streamed_failed passing = false
-streamed_failed done = false
-streamed_failed (pairing todo j) = false
+streamed_failed ph = failed_on on_streamed ph
 
 abbrev pub buffered_failed : {X F : Type 0} → Phase X F → Bool
-buffered_failed (stopped (disordered on_streamed k)) = false
-buffered_failed (stopped (disordered on_buffered k)) = true
-buffered_failed (stopped (oversized s k)) = false
-buffered_failed (stopped (overlong s k)) = false
-buffered_failed (stopped (crowded k)) = false
-buffered_failed (stopped (from_source s f)) = false
-buffered_failed (fetching f) = false
-buffered_failed (seeding f) = false
-buffered_failed (extending f) = false
-buffered_failed (closing f) = false
-buffered_failed turning = false
-buffered_failed passing = false
-buffered_failed done = false
-buffered_failed (pairing todo j) = false
+buffered_failed ph = failed_on on_buffered ph
 
 -- nothing may follow on a side that is over and of which no batch failed
 abbrev pub over : {X F : Type 0} → Bool → List (List X) → Closing F → Bool

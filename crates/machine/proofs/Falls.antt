@@ -1,6 +1,6 @@
 -- The weight falls with every small step that goes on, and the measure with every step and every record handed over.
 use Rattle.std.proofs.Common.{◌≡◌, ℕ, zero, suc, ◌+◌, ◌-◌, ◌*◌, ◌<◌, ◌≤◌, Bool, true, false, cond, ◌&&◌, ltb, leb, List, [], ◌∷◌, length, take, drop, Some, None, Err, Ok, Option, Ordering, Less, Equal, Greater, refl, ap, ◌∙◌, subst, mul-le-mul_left, mul-suc, arith, length-drop, length-take}
-use Rattle.std.proofs.lemmas.Bool.{ltb-true, lt-ltb, le-ltb, lt-leb, cond-true, cond-false}
+use Rattle.std.proofs.lemmas.Bool.{ltb-true, lt-ltb, le-ltb, lt-leb, cond-true, cond-false, cond_both}
 use Rattle.std.proofs.lemmas.Option.{slice_get_within}
 use Rattle.rows.specs.Order.{is_same}
 use Rattle.rows.specs.declared.record.Record.{Record}
@@ -58,8 +58,7 @@ module _ {K : Type 0} (c : Setting K) where
   Below w (answered a s) = Unit {0}
 
   below_cond : (w : ℕ) (t : Bool) (a b : Outcome K) → (t ≡ true → Below w a) → (t ≡ false → Below w b) → Below w (cond t a b)
-  below_cond w true a b h k = h refl
-  below_cond w false a b h k = k refl
+  below_cond w t a b h k = cond_both t a b (Below w) h k
 
   -- what is let go leaves the unfrozen as they are
   let_go_unfrozen : (d : Bool) (q : Queued) → (let_go d q).unfrozen ≡ q.unfrozen

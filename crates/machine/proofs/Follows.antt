@@ -119,8 +119,7 @@ module _ {K V : Type 0} (c : Setting K) (fits : V → Record → Bool) (after : 
   Followed s v (says a t) = (s' : PlainState) × Walk plain s s' × (plain_machine.micro plain s' ≡ answered (answer_of c.kind a) (state_of c t v)) × WholeCore t
 
   pub followed_cond : (s : PlainState) (v : V) (t : Bool) (a b : Outcome K) → (t ≡ true → Followed s v a) → (t ≡ false → Followed s v b) → Followed s v (cond t a b)
-  followed_cond s v true a b h k = h refl
-  followed_cond s v false a b h k = k refl
+  followed_cond s v t a b h k = cond_both t a b (Followed s v) h k
 
   pub marked_whole : (q : Queued) (bf : Buffered K) → WholeBuffered c bf → WholeBuffered c (marked_by c.kind c.asks q bf)
   marked_whole q bf h = record { rows_held = h.rows_held; states_held = length_marking c.kind c.asks bf.holding.base (judged_all c.asks q.unfrozen) bf.states ∙ h.states_held; batches_held = h.batches_held; run = h.run; in_held = h.in_held; few = h.few; in_table = h.in_table; tiled = h.tiled; reaches = h.reaches }

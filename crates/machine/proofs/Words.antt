@@ -34,14 +34,13 @@ use Rattle.law.specs.Law as plain_law
 use Rattle.law.proofs.Holds.{lawful, runs_inv, whole_perm}
 use Rattle.pipeline.specs.Block.{Queued}
 use Rattle.machine.specs.declared.answer.Answer.TheVariants.{More, Waiting, Finished}
-use Rattle.machine.specs.declared.fault.JoinFault.{JoinFault}
 use Rattle.machine.specs.declared.fault.JoinFault.TheVariants.{Unsorted, TableFull, TooManyBatches, TooManyRows, Source}
 use Rattle.machine.specs.Machine.{Setting, Told, Phase, fetching, seeding, extending, closing, turning, passing, done, pairing, stopped, Streamed, Buffered, Counts, Core, core, Turned, last_of, streamed_read, buffered_read, most_handed}
 use Rattle.machine.specs.Report.{reported}
-use Rattle.machine.specs.Law.{Log, rows_in, is_over, fails, has_failed, InOrderAfter, answers_of_more, setting, at_opening, Runs, none, turned, MayFollow, Lawful, Law, LawOfRuns}
-use Rattle.machine.proofs.Plain.{fault_of, answer_of, phase_of, run_of, plain_setting, state_of, first_of, Whole}
+use Rattle.machine.specs.Law.{Log, rows_in, is_over, is_side, fails, has_failed, InOrderAfter, answers_of_more, setting, at_opening, Runs, none, turned, MayFollow, Lawful, Law, LawOfRuns}
+use Rattle.machine.proofs.Plain.{side_of, answer_of, phase_of, run_of, plain_setting, state_of, first_of, Whole}
 use Rattle.machine.proofs.Follows.{WholeCore}
-use Rattle.machine.proofs.Fetch.{last_is}
+use Rattle.machine.proofs.Fetch.{last_is, side_streamed, side_buffered}
 use Rattle.machine.proofs.Steps.{follows_call}
 use Rattle.machine.proofs.Sound.{Close, Kept, stopped_by, fails_at, call_sound, failed_push}
 
@@ -83,55 +82,36 @@ rows_of_side true l r = refl
 rows_of_side false l r = refl
 
 -- the fault that stopped a join, by side
+same_side : (t : Bool) (a b : Side) → plain_law.is_side (side_of t a) (side_of t b) ≡ is_side a b
+same_side true on_left on_left = refl
+same_side true on_left on_right = refl
+same_side true on_right on_left = refl
+same_side true on_right on_right = refl
+same_side false on_left on_left = refl
+same_side false on_left on_right = refl
+same_side false on_right on_left = refl
+same_side false on_right on_right = refl
+
+side_fails : {K : Type 0} (kind : Kind) (side : Side) (to : ℕ) (ph : Phase K) → plain_law.failed_on (side_of (is_right kind) side) (phase_of kind to ph) ≡ fails_at side ph
+side_fails kind side to (fetching f) = refl
+side_fails kind side to (seeding f) = refl
+side_fails kind side to (extending f) = refl
+side_fails kind side to (closing f) = refl
+side_fails kind side to turning = refl
+side_fails kind side to passing = refl
+side_fails kind side to done = refl
+side_fails kind side to (pairing todo) = refl
+side_fails kind side to (stopped (Unsorted s k)) = same_side (is_right kind) side s
+side_fails kind side to (stopped (TableFull s k)) = refl
+side_fails kind side to (stopped (TooManyBatches k)) = refl
+side_fails kind side to (stopped (TooManyRows s k)) = refl
+side_fails kind side to (stopped (Source s f)) = refl
+
 streamed_fails : {K : Type 0} (kind : Kind) (to : ℕ) (ph : Phase K) → plain_law.streamed_failed (phase_of kind to ph) ≡ fails_at (streamed_side kind) ph
-streamed_fails kind to (fetching f) = refl
-streamed_fails kind to (seeding f) = refl
-streamed_fails kind to (extending f) = refl
-streamed_fails kind to (closing f) = refl
-streamed_fails kind to turning = refl
-streamed_fails kind to passing = refl
-streamed_fails kind to done = refl
-streamed_fails kind to (pairing todo) = refl
-streamed_fails {K} kind to (stopped f) = go kind f
-  where
-    go : (kind : Kind) (f : JoinFault) → plain_law.streamed_failed {X = Row K} (plain_machine.stopped (fault_of kind f)) ≡ fails (streamed_side kind) (Err f)
-    go Inner (Unsorted on_left k) = refl
-    go Inner (Unsorted on_right k) = refl
-    go Left (Unsorted on_left k) = refl
-    go Left (Unsorted on_right k) = refl
-    go Right (Unsorted on_left k) = refl
-    go Right (Unsorted on_right k) = refl
-    go Full (Unsorted on_left k) = refl
-    go Full (Unsorted on_right k) = refl
-    go kind (TableFull s k) = refl
-    go kind (TooManyBatches k) = refl
-    go kind (TooManyRows s k) = refl
-    go kind (Source s g) = refl
+streamed_fails {K} kind to ph = ap (λ (s : plain_machine.Side). plain_law.failed_on {X = Row K} s (phase_of kind to ph)) (sym (side_streamed kind)) ∙ side_fails kind (streamed_side kind) to ph
 
 buffered_fails : {K : Type 0} (kind : Kind) (to : ℕ) (ph : Phase K) → plain_law.buffered_failed (phase_of kind to ph) ≡ fails_at (buffered_side kind) ph
-buffered_fails kind to (fetching f) = refl
-buffered_fails kind to (seeding f) = refl
-buffered_fails kind to (extending f) = refl
-buffered_fails kind to (closing f) = refl
-buffered_fails kind to turning = refl
-buffered_fails kind to passing = refl
-buffered_fails kind to done = refl
-buffered_fails kind to (pairing todo) = refl
-buffered_fails {K} kind to (stopped f) = go kind f
-  where
-    go : (kind : Kind) (f : JoinFault) → plain_law.buffered_failed {X = Row K} (plain_machine.stopped (fault_of kind f)) ≡ fails (buffered_side kind) (Err f)
-    go Inner (Unsorted on_left k) = refl
-    go Inner (Unsorted on_right k) = refl
-    go Left (Unsorted on_left k) = refl
-    go Left (Unsorted on_right k) = refl
-    go Right (Unsorted on_left k) = refl
-    go Right (Unsorted on_right k) = refl
-    go Full (Unsorted on_left k) = refl
-    go Full (Unsorted on_right k) = refl
-    go kind (TableFull s k) = refl
-    go kind (TooManyBatches k) = refl
-    go kind (TooManyRows s k) = refl
-    go kind (Source s g) = refl
+buffered_fails {K} kind to ph = ap (λ (s : plain_machine.Side). plain_law.failed_on {X = Row K} s (phase_of kind to ph)) (sym (side_buffered kind)) ∙ side_fails kind (buffered_side kind) to ph
 
 -- nothing may follow where the plain machine says so
 over_follows : {A : Type 0} (failed : Bool) (told : Bool) (l : List (List A)) (e : Closing) → (told ≡ true → failed ≡ true) → plain_law.over failed l e ≡ true → (not told && is_over l e) ≡ true

@@ -1,5 +1,5 @@
 -- The law of runs: what whoever opens a join and works it by turn and report alone finds after every call.
-use Rattle.std.specs.Prelude.{◌≡◌, ℕ, ◌+◌, ◌≤◌, min, Bool, true, false, not, ◌&&◌, ◌||◌, List, [], ◌∷◌, ◌++◌, length, take, Some, None, Ok, Err, Option}
+use Rattle.std.specs.Prelude.{◌≡◌, ℕ, ◌+◌, ◌≤◌, min, Bool, true, false, not, ◌&&◌, ◌||◌, List, [], ◌∷◌, ◌++◌, length, take, Some, None, Ok, Err, Option, is_some}
 use Rattle.std.specs.declared.cmp.Ordering.{Ordering}
 use Rattle.std.specs.List.{ContainsAt as Has, AllByRecursion, flat_map}
 use Rattle.std.specs.List.Sorted.{IsPermutation}
@@ -74,17 +74,13 @@ abbrev pub answers_of_more : List Told → ℕ
 answers_of_more [] = 0
 answers_of_more (a ∷ told) = one_more a + answers_of_more told
 
--- what a join is opened with, as the machine has it
-abbrev pub is_some : {A : Type 0} → Option A → Bool
-is_some None = false
-is_some (Some a) = true
-
 -- ---- the law
 
 -- Over a kind, an order, a filter or none, a batch size and tables, a sink, both logs as the sources hold them at opening, and
 -- the sink's value then.
 module _ {K V : Type 0} (kind : Kind) (within across : K → K → Ordering) (filter : Option Asks) (size streamed_table buffered_table : ℕ)
     (fits : V → Record → Bool) (after : V → Record → V) (lefts rights : Log K) (v₀ : V) where
+  -- what the join is opened with, as the machine has it
   abbrev pub setting : Setting K
   setting = record { within = within; across = across; asks = lets_through filter; filtered = is_some filter; kind = kind; size = size; streamed_table = streamed_table; buffered_table = buffered_table }
 

@@ -58,6 +58,7 @@ impl From<UnknownKind> for OpenRefusal {
 }
 
 impl JoinFault {
+    // The cases have fields, so their numbers stand here and not at the cases.
     pub fn number(&self) -> u8
         ensures { result ≡ (join_fault self.now).number }
     {

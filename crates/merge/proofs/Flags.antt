@@ -7,6 +7,7 @@ use Rattle.rows.specs.Order.{Laws, rank, is_after}
 use Rattle.merge.specs.Table.{meets_streamed}
 use Rattle.merge.specs.Path.{State, at, Ordered, pass_row, pass_run, turn, passed_rows}
 use Rattle.merge.specs.Decided.{extended, is_before, Follows, complete, decided}
+use Rattle.merge.proofs.Listed.{none_passes}
 use Rattle.merge.proofs.Orders.{first_leads, past_is_after}
 use Rattle.merge.proofs.Prefixes.{complete_stays}
 use Rattle.merge.proofs.Steps.{Shuns, shuns_before, shuns_past}
@@ -18,8 +19,7 @@ module _ {X : Type 0} (passes : X → X → Bool) where
 
   -- a row that all the passed ones shun meets none
   pub meets_none : (p : List X) (y : X) → AllByRecursion (λ x. passes x y ≡ false) p → meets_streamed passes p y ≡ false
-  meets_none [] y h = refl
-  meets_none (x ∷ p) y h = rw h.0 (meets_none p y h.1)
+  meets_none p y h = none_passes (λ x. passes x y) p h
 
 pub all_back : {A : Type 0} (P : A → Type 0) (a b : List A) → AllByRecursion P (a ++ b) → AllByRecursion P b
 all_back P [] b h = h

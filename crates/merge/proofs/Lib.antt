@@ -1,3 +1,4 @@
+pub mod Listed
 pub mod Perms
 pub mod Orders
 pub mod Steps

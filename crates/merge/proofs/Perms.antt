@@ -1,8 +1,7 @@
 -- Blocks of a list that change places.
-use Rattle.std.proofs.Common.{◌≡◌, Bool, true, false, List, ◌++◌, refl, append_assoc}
+use Rattle.std.proofs.Common.{◌≡◌, List, ◌++◌, append_assoc}
 use mathlib.Core.List.Permᴰ
 use mathlib.Core.List.{Permᴰ}
-use Rattle.merge.specs.Table.{when}
 
 module _ {A : Type 0} where
   pub same : {a b : List A} → a ≡ b → Permᴰ a b
@@ -18,7 +17,3 @@ module _ {A : Type 0} where
   -- a passed run's rows, put in front of what is left
   pub run_block : (c a b e : List A) → Permᴰ (c ++ (a ++ (b ++ e))) (a ++ (b ++ (c ++ e)))
   run_block c a b e = Permᴰ.trans (swap_blocks c a (b ++ e)) (Permᴰ.append_left a (swap_blocks c b e))
-
-  pub when_append : (k : Bool) (a b : List A) → when k (a ++ b) ≡ when k a ++ when k b
-  when_append true a b = refl
-  when_append false a b = refl

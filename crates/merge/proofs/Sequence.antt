@@ -3,13 +3,13 @@
 use Rattle.std.proofs.Common.{◌≡◌, ℕ, zero, suc, ◌≤◌, Bool, true, false, cond, not, List, [], ◌∷◌, ◌++◌, Ordering, refl, inl, inr, arith}
 use Rattle.std.specs.List.{AllByRecursion}
 use Rattle.std.proofs.ByRecursion.{All-weaker, All-append}
-use Rattle.std.proofs.lemmas.Bool.{or_parts}
 use Rattle.rows.specs.declared.record.Record.{Record}
 use Rattle.rows.specs.declared.record.Record.TheVariants.{Pair, LeftAlone, RightAlone}
 use Rattle.rows.specs.Order.{is_after}
 use Rattle.merge.specs.Table.{when, meets_buffered, pairs_of}
 use Rattle.merge.specs.Path.{State, at, Turn, matched, pass_row, pass_run, turn, path}
 use Rattle.merge.specs.Sequence.{Before, InSequence}
+use Rattle.merge.proofs.Listed.{all_listed, listed_none}
 
 -- the streamed place is i
 abbrev AtPlace : ℕ → Record → Type 0
@@ -53,47 +53,13 @@ sequence_later : (i : ℕ) (a b : List Record) → InSequence a → AllByRecursi
 sequence_later i a b h k g f = sequence_append a b h g (All-weaker _ _ (λ r p. All-weaker _ _ (λ q w. before_later i r q p w) b f) a k)
 
 module _ {X : Type 0} (passes : X → X → Bool) where
-  -- pairs of the streamed row at place i with buffered rows from place j on
-  abbrev PairFrom : ℕ → ℕ → Record → Type 0
-  PairFrom i j (Pair i' j') = (i' ≡ i) × (j ≤ j')
-  PairFrom i j (LeftAlone i') = ⊥
-  PairFrom i j (RightAlone j') = ⊥
-
-  pair_later : (i j : ℕ) (r : Record) → PairFrom i (suc j) r → PairFrom i j r
-  pair_later i j (Pair i' j') h = (h.0, omega arith)
-  pair_later i j (LeftAlone i') h = h
-  pair_later i j (RightAlone j') h = h
-
-  pair_at : (i j : ℕ) (r : Record) → PairFrom i j r → AtPlace i r
-  pair_at i j (Pair i' j') h = h.0
-  pair_at i j (LeftAlone i') h = absurd h
-  pair_at i j (RightAlone j') h = h
-
-  pair_before : (i j : ℕ) (r : Record) → PairFrom i (suc j) r → Before (Pair i j) r
-  pair_before i j (Pair i' j') h = inr (omega arith, omega arith)
-  pair_before i j (LeftAlone i') h = absurd h
-  pair_before i j (RightAlone j') h = h
-
-  pairs_from : (i : ℕ) (x : X) (j : ℕ) (b : List X) → AllByRecursion (PairFrom i j) (pairs_of passes i x j b)
-  pairs_from i x j [] = tt
-  pairs_from i x j (y ∷ b) = go (passes x y) (All-weaker _ _ (pair_later i j) _ (pairs_from i x (suc j) b))
-    where
-      go : (t : Bool) → AllByRecursion (PairFrom i j) (pairs_of passes i x (suc j) b) → AllByRecursion (PairFrom i j) (when t (Pair i j ∷ []) ++ pairs_of passes i x (suc j) b)
-      go true h = ((refl, omega arith), h)
-      go false h = h
-
   pairs_in_sequence : (i : ℕ) (x : X) (j : ℕ) (b : List X) → InSequence (pairs_of passes i x j b)
   pairs_in_sequence i x j [] = tt
   pairs_in_sequence i x j (y ∷ b) = go (passes x y) (pairs_in_sequence i x (suc j) b)
     where
       go : (t : Bool) → InSequence (pairs_of passes i x (suc j) b) → InSequence (when t (Pair i j ∷ []) ++ pairs_of passes i x (suc j) b)
-      go true h = (All-weaker _ _ (pair_before i j) _ (pairs_from i x (suc j) b), h)
+      go true h = (all_listed (Pair i) (passes x) _ (suc j) b (λ k q. inr (refl, omega arith)), h)
       go false h = h
-
-  -- a row that meets none has no pair
-  pairs_none : (i : ℕ) (x : X) (j : ℕ) (b : List X) → meets_buffered passes x b ≡ false → pairs_of passes i x j b ≡ []
-  pairs_none i x j [] e = refl
-  pairs_none i x j (y ∷ b) e = let k = or_parts (passes x y) (meets_buffered passes x b) e in rw k.0 (pairs_none i x (suc j) b k.1)
 
   -- a passed row's pairs, or the row alone
   abbrev OfRow : ℕ → List Record → Type 0
@@ -104,11 +70,11 @@ module _ {X : Type 0} (passes : X → X → Bool) where
   row_in_sequence keeps_streamed i x j b = go keeps_streamed (meets_buffered passes x b) refl
     where
       pairs : OfRow i (pairs_of passes i x j b ++ [])
-      pairs = (sequence_append _ [] (pairs_in_sequence i x j b) tt (All-weaker _ _ (λ r h. tt) _ (pairs_from i x j b)), All-append _ _ [] (All-weaker _ _ (pair_at i j) _ (pairs_from i x j b)) tt)
+      pairs = (sequence_append _ [] (pairs_in_sequence i x j b) tt (all_listed (Pair i) (passes x) _ j b (λ _ _. tt)), All-append _ _ [] (all_listed (Pair i) (passes x) (AtPlace i) j b (λ _ _. refl)) tt)
 
       go : (k t : Bool) → meets_buffered passes x b ≡ t → OfRow i (pairs_of passes i x j b ++ when k (when (not t) (LeftAlone i ∷ [])))
       go true true e = pairs
-      go true false e = rw (pairs_none i x j b e) ((tt, tt), (refl, tt))
+      go true false e = rw (listed_none (Pair i) (passes x) j b e) ((tt, tt), (refl, tt))
       go false t e = pairs
 
 module _ {X : Type 0} (within across : X → X → Ordering) (passes : X → X → Bool) (keeps_streamed : Bool) where

@@ -1,5 +1,5 @@
 -- One turn: what it contributes and what is still to come make up what was to come before.
-use Rattle.std.proofs.Common.{◌≡◌, ℕ, zero, suc, ◌+◌, ◌≤◌, Bool, true, false, cond, not, ◌||◌, List, [], ◌∷◌, ◌++◌, length, Ordering, Less, Equal, Greater, sym, refl, ap, ◌∙◌, true≢false, append_assoc, add-zero, arith}
+use Rattle.std.proofs.Common.{◌≡◌, ℕ, zero, suc, ◌+◌, ◌≤◌, Bool, true, false, cond, not, List, [], ◌∷◌, ◌++◌, length, Ordering, Less, Equal, Greater, sym, refl, ap, ◌∙◌, true≢false, append_assoc, arith}
 use mathlib.Core.List.{nil≢cons, head-eq_of_cons-eq}
 use mathlib.Core.List.Permᴰ
 use mathlib.Core.List.{Permᴰ}
@@ -9,67 +9,28 @@ use Rattle.rows.specs.Order.{Laws, rank, is_same, is_after}
 use Rattle.merge.specs.Table.{when, meets_buffered, meets_streamed, pairs_of, all_pairs, lone_streamed, lone_buffered, table_from}
 use Rattle.merge.specs.Runs.{Sorted, more_of_run, past_run}
 use Rattle.merge.specs.Path.{State, at, to_come, Ordered, Turn, matched, pass_row, pass_run, turn, path, after}
-use Rattle.rows.specs.declared.record.Record.{Record}
 use Rattle.rows.specs.declared.record.Record.TheVariants.{Pair, LeftAlone, RightAlone}
-use Rattle.merge.proofs.Perms.{same, row_block, run_block, when_append}
+use Rattle.merge.proofs.Perms.{same, row_block, run_block}
+use Rattle.merge.proofs.Listed.{when_append, any_front, any_back, listed_append, listed_front, listed_back}
 use Rattle.merge.proofs.Orders.{sums, first_leads, past_is_after, run_is_level, past_sorted}
-
-shift : (j n : ℕ) → suc j + n ≡ j + suc n
-shift j n = omega arith
 
 module _ {X : Type 0} (passes : X → X → Bool) where
   -- a streamed row that passes with no row of l
   abbrev pub Shuns : X → List X → Type 0
   Shuns x l = AllByRecursion (λ y. passes x y ≡ false) l
 
-  pairs_shunned : (i : ℕ) (x : X) (j : ℕ) (l : List X) → Shuns x l → pairs_of passes i x j l ≡ []
-  pairs_shunned i x j [] h = refl
-  pairs_shunned i x j (y ∷ l) h = rw h.0 (pairs_shunned i x (suc j) l h.1)
-
-  meets_shunned : (x : X) (l : List X) → Shuns x l → meets_buffered passes x l ≡ false
-  meets_shunned x [] h = refl
-  meets_shunned x (y ∷ l) h = rw h.0 (meets_shunned x l h.1)
-
-  -- rows that x shuns behind l add nothing
-  pairs_front : (i : ℕ) (x : X) (j : ℕ) (l r : List X) → Shuns x r → pairs_of passes i x j (l ++ r) ≡ pairs_of passes i x j l
-  pairs_front i x j [] r h = pairs_shunned i x j r h
-  pairs_front i x j (y ∷ l) r h = ap (λ (k : List Record). when (passes x y) (Pair i j ∷ []) ++ k) (pairs_front i x (suc j) l r h)
-
-  meets_front : (x : X) (l r : List X) → Shuns x r → meets_buffered passes x (l ++ r) ≡ meets_buffered passes x l
-  meets_front x [] r h = meets_shunned x r h
-  meets_front x (y ∷ l) r h = ap (λ (k : Bool). passes x y || k) (meets_front x l r h)
-
-  -- rows that x shuns before r add nothing
-  pairs_back : (i : ℕ) (x : X) (j : ℕ) (l r : List X) → Shuns x l → pairs_of passes i x j (l ++ r) ≡ pairs_of passes i x (j + length l) r
-  pairs_back i x j [] r h = rw add-zero
-  pairs_back i x j (y ∷ l) r h = rw h.0 (pairs_back i x (suc j) l r h.1 ∙ ap (λ (k : ℕ). pairs_of passes i x k r) (shift j (length l)))
-
-  meets_back : (x : X) (l r : List X) → Shuns x l → meets_buffered passes x (l ++ r) ≡ meets_buffered passes x r
-  meets_back x [] r h = refl
-  meets_back x (y ∷ l) r h = rw h.0 (meets_back x l r h.1)
-
-  -- the same for streamed rows s each of which shuns l
+  -- buffered rows l that each row of s shuns add nothing before r
   all_pairs_back : (i : ℕ) (s : List X) (j : ℕ) (l r : List X) → AllByRecursion (λ x. Shuns x l) s → all_pairs passes i s j (l ++ r) ≡ all_pairs passes i s (j + length l) r
   all_pairs_back i [] j l r h = refl
-  all_pairs_back i (x ∷ s) j l r h = rw (pairs_back i x j l r h.0, all_pairs_back (suc i) s j l r h.1)
+  all_pairs_back i (x ∷ s) j l r h = rw (listed_back (Pair i) (passes x) j l r h.0, all_pairs_back (suc i) s j l r h.1)
 
   lone_streamed_back : (i : ℕ) (s : List X) (l r : List X) → AllByRecursion (λ x. Shuns x l) s → lone_streamed passes i s (l ++ r) ≡ lone_streamed passes i s r
   lone_streamed_back i [] l r h = refl
-  lone_streamed_back i (x ∷ s) l r h = rw (meets_back x l r h.0, lone_streamed_back (suc i) s l r h.1)
-
-  lone_buffered_append : (s : List X) (j : ℕ) (l r : List X) → lone_buffered passes s j (l ++ r) ≡ lone_buffered passes s j l ++ lone_buffered passes s (j + length l) r
-  lone_buffered_append s j [] r = rw add-zero
-  lone_buffered_append s j (y ∷ l) r = rw (lone_buffered_append s (suc j) l r, shift j (length l)) (sym (append_assoc (when (not (meets_streamed passes s y)) (RightAlone j ∷ [])) _ _))
-
-  -- streamed rows that shun y change nothing for it
-  meets_streamed_front : (p s : List X) (y : X) → AllByRecursion (λ x. passes x y ≡ false) s → meets_streamed passes (p ++ s) y ≡ meets_streamed passes p y
-  meets_streamed_front [] [] y h = refl
-  meets_streamed_front [] (x ∷ s) y h = rw h.0 (meets_streamed_front [] s y h.1)
-  meets_streamed_front (x ∷ p) s y h = ap (λ (k : Bool). passes x y || k) (meets_streamed_front p s y h)
+  lone_streamed_back i (x ∷ s) l r h = rw (any_back (passes x) l r h.0, lone_streamed_back (suc i) s l r h.1)
 
   lone_buffered_front : (p s : List X) (j : ℕ) (l : List X) → AllByRecursion (λ x. Shuns x l) s → lone_buffered passes (p ++ s) j l ≡ lone_buffered passes p j l
   lone_buffered_front p s j [] h = refl
-  lone_buffered_front p s j (y ∷ l) h = rw (meets_streamed_front p s y (All-weaker _ _ (λ x k. k.0) s h), lone_buffered_front p s (suc j) l (All-weaker _ _ (λ x k. k.1) s h))
+  lone_buffered_front p s j (y ∷ l) h = rw (any_front (λ x. passes x y) p s (All-weaker _ _ (λ x k. k.0) s h), lone_buffered_front p s (suc j) l (All-weaker _ _ (λ x k. k.1) s h))
 
   module _ (keeps_streamed keeps_buffered : Bool) where
     row_step : (p : List X) (i : ℕ) (x : X) (s : List X) (j : ℕ) (m b : List X) → pairs_of passes i x j b ≡ pairs_of passes i x j m → meets_buffered passes x b ≡ meets_buffered passes x m
@@ -83,7 +44,7 @@ module _ {X : Type 0} (passes : X → X → Bool) where
         → Permᴰ (when keeps_buffered (lone_buffered passes p j l) ++ table_from passes keeps_streamed keeps_buffered p i s (j + length l) r)
         (table_from passes keeps_streamed keeps_buffered p i s j (l ++ r))
     run_step p i s j l r h =
-        rw (all_pairs_back i s j l r h, lone_streamed_back i s l r h, lone_buffered_append (p ++ s) j l r, lone_buffered_front p s j l h, when_append keeps_buffered (lone_buffered passes p j l) (lone_buffered passes (p ++ s) (j + length l) r))
+        rw (all_pairs_back i s j l r h, lone_streamed_back i s l r h, listed_append RightAlone (λ y. not (meets_streamed passes (p ++ s) y)) j l r, lone_buffered_front p s j l h, when_append keeps_buffered (lone_buffered passes p j l) (lone_buffered passes (p ++ s) (j + length l) r))
         (run_block (when keeps_buffered (lone_buffered passes p j l)) (all_pairs passes i s (j + length l) r) _ _)
 
 -- what a turn keeps: its contributions and what is to come after it make up what was to come before it
@@ -158,8 +119,8 @@ module _ {X : Type 0} (within across : X → X → Ordering) (passes : X → X �
         let w = matched_front x b k f in
         record {
           makes_up = row_step passes keeps_streamed keeps_buffered p i x s j m b
-              (ap (pairs_of passes i x j) w.1 ∙ pairs_front passes i x j m w.0 w.2)
-              (ap (meets_buffered passes x) w.1 ∙ meets_front passes x m w.0 w.2);
+              (ap (pairs_of passes i x j) w.1 ∙ listed_front (Pair i) (passes x) j m w.0 w.2)
+              (ap (meets_buffered passes x) w.1 ∙ any_front (passes x) m w.0 w.2);
           ordered = (h.1, k);
         }
 

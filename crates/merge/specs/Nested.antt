@@ -1,5 +1,5 @@
 -- The joined table as the nested loops build it: of the sides by left and right.
-use Rattle.std.specs.Prelude.{ℕ, suc, Bool, not, List, [], ◌∷◌, ◌++◌, map}
+use Rattle.std.specs.Prelude.{Bool, not, List, map}
 use Rattle.filters.specs.declared.filter.Filter as filters
 use Rattle.rows.specs.declared.kind.Side.{Side}
 use Rattle.rows.specs.declared.kind.Side.TheVariants.{Left as on_left, Right as on_right}
@@ -8,13 +8,8 @@ use Rattle.rows.specs.declared.record.Record.{Record}
 use Rattle.rows.specs.declared.row.Row.{Row}
 use Rattle.rows.specs.Sides.{streamed_of, buffered_of, alone_on, oriented}
 use Rattle.merge.specs.declared.nested_loops.Sides.{Sides}
-use Rattle.merge.specs.Table.{when, meets_buffered, meets_streamed, all_pairs}
+use Rattle.merge.specs.Table.{listed, meets_buffered, meets_streamed, all_pairs}
 use Rattle.merge.specs.Joined.{filter_of, passes, pair_passes}
-
--- the records of those rows of a side that a test calls alone; the first row is at place i
-abbrev pub lone_rows : {X : Type 0} → (X → Bool) → Side → ℕ → List X → List Record
-lone_rows alone side i [] = []
-lone_rows alone side i (x ∷ l) = when (alone x) (alone_on side i ∷ []) ++ lone_rows alone side (suc i) l
 
 module _ {X : Type 0} (passes : X → X → Bool) (lefts rights : List X) where
   -- the rows of a side
@@ -29,7 +24,7 @@ module _ {X : Type 0} (passes : X → X → Bool) (lefts rights : List X) where
 
   -- the records of a side's rows that are alone
   abbrev pub lone_of : Side → List Record
-  lone_of side = lone_rows (alone_among side) side 0 (side_rows side)
+  lone_of side = listed (alone_on side) (alone_among side) 0 (side_rows side)
 
 module _ {O F K : Type 0} {order : orders.Ghosts O K} {filter : filters.Ghosts F} (sides : Sides O F K order filter) where
   -- a streamed and a buffered row pass

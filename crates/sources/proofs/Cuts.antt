@@ -1,7 +1,7 @@
 -- Rows cut every n rows.
 use Rattle.std.proofs.Common.{◌≡◌, ℕ, zero, suc, ◌+◌, ◌<◌, ◌≤◌, max, List, [], ◌∷◌, ◌++◌, length, take, drop, Some, Ok, sym, refl, ap, ◌∙◌, arith, length-drop, length-take}
 use Rattle.std.specs.List.{flat_map}
-use Rattle.std.proofs.lemmas.List.{take-append-drop, length-append, take_at, drop_at}
+use Rattle.std.proofs.lemmas.List.{take-append-drop, length-append, take_at, drop_at, take_min, drop_min}
 use Rattle.sources.specs.Meaning.{upcoming}
 use Rattle.sources.specs.Memory.{first_cut, cut, Filled, CutEvery}
 
@@ -31,17 +31,6 @@ module _ {A : Type 0} where
       let l = length-drop (max every 1) (row ∷ rows) in
       ap (λ left. take (max every 1) (row ∷ rows) ∷ left)
       (enough (length rows) (length (drop (max every 1) (row ∷ rows))) (max every 1) (drop (max every 1) (row ∷ rows)) (omega arith) (omega arith) (omega arith))
-
-  -- a batch is as long as it can be: to cut there or at its own length is the same
-  take_shorter : (n : ℕ) (rows : List A) → take (length (take n rows)) rows ≡ take n rows
-  take_shorter zero rows = refl
-  take_shorter (suc n) [] = refl
-  take_shorter (suc n) (row ∷ rows) = ap (λ l. row ∷ l) (take_shorter n rows)
-
-  drop_shorter : (n : ℕ) (rows : List A) → drop (length (take n rows)) rows ≡ drop n rows
-  drop_shorter zero rows = refl
-  drop_shorter (suc n) [] = refl
-  drop_shorter (suc n) (row ∷ rows) = drop_shorter n rows
 
   whole : (m n : ℕ) (rows : List A) → 1 ≤ n → length rows ≤ m → flat_map (λ batch. batch) (first_cut m n rows) ≡ rows
   whole zero n [] p h = refl
@@ -116,6 +105,6 @@ module _ {A : Type 0} where
       let q : n ≡ length (take m (row ∷ rows)) = cc in
       let t = length-take m (row ∷ rows) in
       record {
-        cuts = rw (q, take_shorter m (row ∷ rows), drop_shorter m (row ∷ rows)) (cut_more every (row ∷ rows) h);
+        cuts = rw (q, t, take_min m (row ∷ rows), drop_min m (row ∷ rows)) (cut_more every (row ∷ rows) h);
         within = omega arith;
       }

@@ -18,14 +18,6 @@ inner_part i k n xs h =
     let inside : k ≤ n - i = omega arith in
     ap (λ m. take k (drop i (take m xs))) parts ∙ ap (take k) (drop-take i (n - i) xs) ∙ take-take k (n - i) (drop i xs) inside
 
-pub some_part : (count width : ℕ) → 0 < count * width → 0 < count
-some_part zero width h = absurd (omega (arith, zero-mul width))
-some_part (suc n) width h = omega arith
-
-pub no_part : (count width : ℕ) → 0 < width → count * width ≡ 0 → count ≡ 0
-no_part zero width h k = refl
-no_part (suc n) width h k = absurd (omega (arith, suc-mul n width))
-
 abbrev pub reading_with : ℕ → ℤ → ℕ → Reading
 reading_with m l r = record { moment = m; level = l; receiver = r }
 
@@ -34,19 +26,6 @@ same_reading m n l k r s a b c = ap (λ x. reading_with x l r) a ∙ ap (λ x. r
 
 abbrev pub row_with : {K : Type 0} → K → Reading → Row K
 row_with k r = record { key = k; reading = r }
-
--- a reading from its seven bytes
-pub reading_is : (bytes : List ℕ) (m : ℕ) (l : ℤ) (r : ℕ) → 7 ≤ length bytes
-    → m ≡ get_or bytes 0 0 * 16777216 + get_or bytes 1 0 * 65536 + get_or bytes 2 0 * 256 + get_or bytes 3 0 → l ≡ to_z w8 (get_or bytes 4 0)
-    → r ≡ get_or bytes 5 0 * 256 + get_or bytes 6 0 → reading_with m l r ≡ reading_of bytes
-reading_is [] m l r h em el er = absurd (omega arith)
-reading_is (a ∷ []) m l r h em el er = absurd (omega arith)
-reading_is (a ∷ b ∷ []) m l r h em el er = absurd (omega arith)
-reading_is (a ∷ b ∷ c ∷ []) m l r h em el er = absurd (omega arith)
-reading_is (a ∷ b ∷ c ∷ d ∷ []) m l r h em el er = absurd (omega arith)
-reading_is (a ∷ b ∷ c ∷ d ∷ e ∷ []) m l r h em el er = absurd (omega arith)
-reading_is (a ∷ b ∷ c ∷ d ∷ e ∷ f ∷ []) m l r h em el er = absurd (omega arith)
-reading_is (a ∷ b ∷ c ∷ d ∷ e ∷ f ∷ g ∷ more) m l r h em el er = same_reading _ _ _ _ _ _ (omega (arith, em)) el (omega (arith, er))
 
 module _ {K : Type 0} (L : Layout K) where
   pub length_rows_of : (n : ℕ) (bytes : List ℕ) → length (rows_of L n bytes) ≡ n

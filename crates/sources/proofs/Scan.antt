@@ -1,5 +1,5 @@
 -- A scan over a log's commands, row by row, up to the command that closes the batch or the log.
-use Rattle.std.proofs.Common.{◌≡◌, ℕ, zero, suc, ◌+◌, ◌-◌, ◌*◌, ◌/◌, ◌<◌, ◌≤◌, Bool, true, false, leb, List, [], ◌∷◌, ◌++◌, length, get_or, take, drop, Some, None, Ok, Err, sym, refl, ap, ◌∙◌, ⊎_elim, suc-mul, mul-div_cancel, arith, le-leb}
+use Rattle.std.proofs.Common.{◌≡◌, ℕ, zero, suc, ◌+◌, ◌-◌, ◌*◌, ◌/◌, ◌<◌, ◌≤◌, Bool, true, false, leb, List, [], ◌∷◌, ◌++◌, length, get_or, take, drop, Some, None, Ok, Err, sym, refl, ap, ◌∙◌, ⊎_elim, suc-mul, zero-mul, mul-div_cancel, arith, le-leb}
 use Rattle.std.proofs.lemmas.Bool.{cases_eq}
 use Rattle.std.proofs.Math.Nat.{mul-le-mul_right, zero-div}
 use Rattle.std.proofs.lemmas.List.{drop-drop, length-drop, length-take, length-take-le, take_rest}
@@ -10,7 +10,7 @@ use Rattle.sources.specs.Meaning.{Closing}
 use Rattle.sources.specs.Layout.{Layout, key_in}
 use Rattle.sources.specs.Log.{row, last, row_of, ended, commands, batches_from, closing_of}
 use Rattle.sources.specs.Coming.{Apart, KeysAreValid, row_width, rows_of, rows_in, Found}
-use Rattle.sources.proofs.Rows.{inner_part, some_part, no_part, rows_of_more, rows_in_front}
+use Rattle.sources.proofs.Rows.{inner_part, rows_of_more, rows_in_front}
 
 -- what follows the first byte, as the checker reads a pattern's rest
 abbrev pub after : List ℕ → List ℕ
@@ -54,13 +54,13 @@ module _ {K : Type 0} (L : Layout K) (total : ℕ) where
       rw (is, v) (ap (row (row_of L bytes)) (commands_past (L.width + 7) bytes h))
 
   -- whether 03 closes a batch
-  last_rows : (n : ℕ) (bytes : List ℕ) (closing : Closing) → 0 < n → batches_from (rows_of L n bytes) (last closing) ≡ rows_of L n bytes ∷ []
-  last_rows zero bytes closing h = absurd (omega arith)
+  last_rows : (n : ℕ) (bytes : List ℕ) (closing : Closing) → 0 < n * row_width L → batches_from (rows_of L n bytes) (last closing) ≡ rows_of L n bytes ∷ []
+  last_rows zero bytes closing h = absurd (omega (arith, zero-mul (row_width L)))
   last_rows (suc n) bytes closing h = refl
 
-  last_none : (n : ℕ) (bytes : List ℕ) (closing : Closing) → n ≡ 0 → batches_from (rows_of L n bytes) (last closing) ≡ []
+  last_none : (n : ℕ) (bytes : List ℕ) (closing : Closing) → n * row_width L ≡ 0 → batches_from (rows_of L n bytes) (last closing) ≡ []
   last_none zero bytes closing h = refl
-  last_none (suc n) bytes closing h = absurd (omega arith)
+  last_none (suc n) bytes closing h = absurd (omega (arith, suc-mul n (row_width L)))
 
   too_long : (bytes : List ℕ) → 0 < length bytes → ended total bytes ≡ Err (BadCommand (total - length bytes))
   too_long [] h = absurd (omega arith)
@@ -143,7 +143,7 @@ module _ {K : Type 0} (L : Layout K) (total : ℕ) where
             batches =
                 ap (λ rs. rs ∷ batches_from [] (commands L total 0 batch.rest.now)) (passed_rows batch.rows.now held)
                 ∙ ap (λ bs. rows_of L p.count bytes ∷ batches_from [] (commands L total 0 bs)) (left ∙ e)
-                ∙ sym (last_rows p.count bytes (ended total (after rest)) (some_part p.count (row_width L) (omega (arith, passed_length, shorter))))
+                ∙ sym (last_rows p.count bytes (ended total (after rest)) (omega (arith, passed_length, shorter)))
                 ∙ sym (ap (λ bs. batches_from (rows_of L p.count bytes) (commands L total 0 bs)) e)
                 ∙ p.batches;
             closing = ap (λ bs. closing_of (commands L total 0 bs)) left ∙ p.closing;
@@ -153,8 +153,8 @@ module _ {K : Type 0} (L : Layout K) (total : ℕ) where
 
       -- 03 with no row before it ends the log
       module _ (l : 0 < length rest) (z : get_or rest 0 0 ≡ 3) (rows : List ℕ) (none : length rows ≡ 0) (held : rows ≡ take (length bytes - length rest) bytes) where
-        no_rows : p.count ≡ 0
-        no_rows = no_part p.count (row_width L) (omega arith) (omega (arith, passed_length, ap length held, none, length-take (length bytes - length rest) bytes))
+        no_rows : p.count * row_width L ≡ 0
+        no_rows = omega (arith, passed_length, ap length held, none, length-take (length bytes - length rest) bytes)
 
         batches_end : batches_from [] (commands L total 0 bytes) ≡ []
         batches_end =

@@ -7,7 +7,7 @@ use crate::kind::KeyKind;
 use rows::reading::Reading;
 use rows::row::Row;
 
-// The command bytes.
+// The command bytes: constants and no enum, since a log is read by patterns over its bytes.
 pub(crate) const HEADER: u8 = 0;
 
 const ROW: u8 = 1;
@@ -67,11 +67,8 @@ pub(crate) fn next_batch<F: KeyKind>(bytes: &[u8], total: usize) -> Coming<'_>
     ensures { Found F.KeyKind.layout total (commands F.KeyKind.layout total 0 bytes.now) result }
 {
     let mut rest = bytes;
-    loop {
+    while let [command, after @ ..] = rest {
         let place = (total - rest.len()) as u64;
-        let [command, after @ ..] = rest else {
-            return Err(SourceFault::RunsOut(place));
-        };
         let rows = &bytes[..bytes.len() - rest.len()];
         match *command {
             ROW => {
@@ -87,6 +84,7 @@ pub(crate) fn next_batch<F: KeyKind>(bytes: &[u8], total: usize) -> Coming<'_>
             _ => return Err(SourceFault::BadCommand(place)),
         }
     }
+    Err(SourceFault::RunsOut(total as u64))
 }
 
 // How many rows the commands of a batch hold.

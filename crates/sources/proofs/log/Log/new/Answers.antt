@@ -8,5 +8,5 @@ returns-clause-written g c =
     let L = g.F.KeyKind.layout in
     let found = c.opened.ensures in
     λ given fits e.
-        let means = written_means L g.met.F.KeyKind.back given fits in
-        (found.batches ∙ ap (log_batches L) e ∙ means.0, found.closing ∙ ap (log_closing L) e ∙ means.1)
+    let means = written_means L g.met.F.KeyKind.back given fits in
+    (found.batches ∙ ap (log_batches L) e ∙ means.0, found.closing ∙ ap (log_closing L) e ∙ means.1)
