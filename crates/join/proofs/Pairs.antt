@@ -1,12 +1,11 @@
 -- The pairs of a streamed row with the run: where they begin, how many are written at a time, and what is left.
-use Rattle.std.proofs.Common.{◌≡◌, ℕ, zero, suc, ◌+◌, ◌-◌, ◌<◌, ◌≤◌, min, ◌⊎◌, List, [], ◌∷◌, ◌++◌, length, get_or, take, drop, Some, Equal, sym, refl, ap, ◌∙◌, inl, inr, arith}
+use Rattle.std.proofs.Common.{◌≡◌, ℕ, suc, ◌+◌, ◌-◌, ◌<◌, ◌≤◌, min, ◌⊎◌, List, [], ◌∷◌, ◌++◌, length, take, drop, Some, Equal, sym, refl, ap, ◌∙◌, inl, inr, arith}
 use borrow.Rule.Slice.PartMut.{put_mid}
 use Rattle.std.proofs.lemmas.List.{length-take, length-take-le, length-drop, length-append, take_all, take-take, take_at, take-append-le, drop_all, drop-take, drop_at, nil_from_length}
 use Rattle.std.proofs.lemmas.Bool.{cases_lt}
 use Rattle.rows.specs.declared.kind.Kind.{Kind}
 use Rattle.rows.specs.declared.reading.Reading.{Reading}
 use Rattle.rows.specs.declared.row.Row.{Row}
-use Rattle.pipeline.specs.declared.batch.BufferedBatch.{BufferedBatch}
 use Rattle.pipeline.specs.declared.entry.StreamedRow.{StreamedRow}
 use Rattle.pipeline.specs.declared.held.BufferedData.{BufferedData}
 use Rattle.pipeline.specs.Batches.{rows_of}
@@ -15,16 +14,6 @@ use Rattle.pipeline.specs.Held.{holding, matching, run_at, run_from, pairs_with}
 use Rattle.machine.specs.Machine.{Setting, Streamed, Buffered, Counts, Outcome, going, core, pairing, passing, compared, head_start, with_holding, freeze_full, place, pair_row}
 use Rattle.join.specs.declared.state.Join.{Join}
 use Rattle.join.specs.Shows.{Memory, streamed_of, buffered_of, counts_of}
-
--- the first batch held, and where its range starts
-pub head_none : {K : Type 0} (c : Setting K) (k : ℕ) (l : List BufferedBatch) → k ≤ 0 → head_start c (take k l) ≡ 0
-head_none c zero l none = refl
-head_none c (suc k) l none = absurd (omega arith)
-
-pub head_first : {K : Type 0} (c : Setting K) (k : ℕ) (l : List BufferedBatch) (d : BufferedBatch) → 0 < k → 0 < length l → head_start c (take k l) ≡ (get_or l 0 d).start
-head_first c zero l d some long = absurd (omega arith)
-head_first c (suc k) [] d some long = absurd (omega arith)
-head_first c (suc k) (x ∷ l) d some long = refl
 
 -- a join whose pairs go on at row r of the first batch, with the whole run left
 abbrev begun_at : {K : Type 0} → Join K → Memory K → ℕ → Outcome K

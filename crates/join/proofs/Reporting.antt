@@ -5,7 +5,7 @@ use Rattle.rows.specs.declared.row.Row.{Row}
 use Rattle.pipeline.specs.declared.entry.Entry.{Entry}
 use Rattle.pipeline.specs.Block.{records}
 use Rattle.pipeline.specs.Held.{Holding, holding}
-use Rattle.merge.specs.Sides.{left_of, right_of}
+use Rattle.rows.specs.Sides.{left_of, right_of}
 use Rattle.machine.specs.declared.answer.Report.{Report}
 use Rattle.machine.specs.declared.answer.State.{State}
 use Rattle.machine.specs.declared.answer.State.TheVariants.{Waiting}

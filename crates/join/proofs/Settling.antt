@@ -1,11 +1,12 @@
 -- What the steps of the queue come to where they are possible, with the numbers that they leave.
-use Rattle.std.proofs.Common.{◌≡◌, ℕ, ◌+◌, Bool, true, cond, eqb, List, ◌++◌, length, take, drop, sym, ap, ◌∙◌, arith}
+use Rattle.std.proofs.Common.{◌≡◌, ℕ, ◌+◌, Bool, true, cond, eqb, Result, is_ok, List, ◌++◌, length, take, drop, sym, ap, ◌∙◌, arith}
 use Rattle.std.proofs.lemmas.List.{length-append, length-take-le}
 use Rattle.std.proofs.lemmas.Bool.{and_from, eq-eqb}
 use Rattle.rows.specs.declared.kind.Kind.{Kind}
 use Rattle.rows.specs.declared.reading.Reading.{Reading}
 use Rattle.pipeline.specs.declared.entry.Entry.{Entry}
 use Rattle.pipeline.specs.declared.queue.Queue.{Queue}
+use Rattle.pipeline.specs.declared.refused.Refused.{Refused}
 use Rattle.pipeline.specs.declared.states.States.{States}
 use Rattle.pipeline.specs.Block.{Queued, Roomy, Step, queued, has_room, can_hand, freeze, freeze_all}
 use Rattle.pipeline.specs.Freezing.{judged_all}
@@ -15,16 +16,16 @@ use Rattle.machine.proofs.Entries.{length_marking}
 use Rattle.join.specs.declared.state.Join.{Join}
 
 -- what the queue and the block then hold, and the numbers by it
-pub record Made (s : Queued) (answer : Bool) (q : Queue) (block : List Entry) : Type 0 where
+pub record Made (s : Queued) (answer : Result (Unit {0}) Refused) (q : Queue) (block : List Entry) : Type 0 where
   pub holds : queued q block ≡ s
-  pub answers : answer ≡ true
+  pub answers : is_ok answer ≡ true
   pub roomy : Roomy q block
   pub noted : q.noted ≡ length s.noted
   pub unfrozen : q.unfrozen ≡ length s.unfrozen
   pub frozen : q.frozen ≡ length s.frozen
   pub due : q.due ≡ length s.due
 
-pub made_by : {possible : Bool} {step : Queued → Queued} {q q' : Queue} {block block' : List Entry} {answer : Bool}
+pub made_by : {possible : Bool} {step : Queued → Queued} {q q' : Queue} {block block' : List Entry} {answer : Result (Unit {0}) Refused}
     → Step possible step q block answer q' block' → possible ≡ true → Roomy q block → Made (step (queued q block)) answer q' block'
 made_by {possible} {step} {q} {q'} {block} {block'} s can room =
     let is = s.made can in

@@ -1,7 +1,7 @@
 -- A turn that flushes the block, and one that notes the streamed row alone, against the machine's.
 use Rattle.std.proofs.Common.{◌≡◌, ◌+◌, ◌<◌, ◌≤◌, Bool, true, cond, [], ◌∷◌, length, take, sym, ap, ◌∙◌, arith}
 use Rattle.std.proofs.lemmas.Bool.{le-leb, lt-leb}
-use Rattle.merge.specs.Sides.{is_outer}
+use Rattle.rows.specs.Sides.{is_outer}
 use Rattle.pipeline.specs.Block.{Queued, Roomy, queued, pushed, freeze_all}
 use Rattle.pipeline.specs.Entries.{lone}
 use Rattle.pipeline.specs.Held.{holding}

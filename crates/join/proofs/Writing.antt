@@ -5,6 +5,7 @@ use Rattle.std.proofs.lemmas.List.{length-take-le, length-drop, length-append}
 use Rattle.std.proofs.lemmas.Bool.{le-leb, lt-leb, cond-true, cond-false}
 use Rattle.rows.specs.declared.kind.Kind.{Kind}
 use Rattle.rows.specs.declared.row.Row.{Row}
+use Rattle.sources.specs.Meaning.{Closing}
 use Rattle.pipeline.specs.declared.entry.Entry.{Entry}
 use Rattle.pipeline.specs.declared.held.BufferedData.{BufferedData}
 use Rattle.pipeline.specs.Block.{Queued, queued, pushed, freeze_all}
@@ -19,7 +20,6 @@ use Rattle.join.specs.declared.phase.Phase.{Phase as PhaseOf}
 use Rattle.join.specs.declared.phase.Phase.TheVariants.{Pairing}
 use Rattle.join.specs.declared.phase.Pairs.{Pairs}
 use Rattle.join.specs.declared.state.Join.{Join}
-use Rattle.sources.specs.declared.source.Closing.{Closing}
 use Rattle.join.specs.Phases.{pending}
 use Rattle.join.specs.Shows.{Memory, memory, FitsMemory, core_of, streamed_of, buffered_of, counts_of, phase_of}
 use Rattle.join.specs.Pairing.{adding}

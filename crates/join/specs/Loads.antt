@@ -3,8 +3,6 @@ use Rattle.std.specs.Prelude.{ℕ, zero, suc, ◌+◌, Bool, false, cond, Some, 
 use Rattle.std.specs.declared.cmp.Ordering.{Ordering}
 use Rattle.rows.specs.declared.kind.Side.{Side}
 use Rattle.sources.specs.declared.fault.SourceFault.{SourceFault}
-use Rattle.sources.specs.declared.source.Next.{Next}
-use Rattle.sources.specs.declared.source.Next.TheVariants.{Batch, End}
 use Rattle.join.specs.declared.load.LoadFault.{LoadFault}
 use Rattle.join.specs.declared.load.LoadFault.TheVariants.{TableFull, TooManyBatches, TooManyRows, Source}
 use Rattle.machine.specs.declared.fault.JoinFault.{JoinFault}
@@ -20,14 +18,14 @@ on_side TooManyRows side first = too_many_rows side first
 on_side (Source f) side first = source_fault side f
 
 -- the size of the next batch, checked: of a batch that has rows, first for places, then for batches, then for the table
-abbrev pub checked : Result Next SourceFault → ℕ → Bool → ℕ → Result Next LoadFault
+abbrev pub checked : Result (Option ℕ) SourceFault → ℕ → Bool → ℕ → Result (Option ℕ) LoadFault
 checked (Err f) read full space = Err (Source f)
-checked (Ok End) read full space = Ok End
-checked (Ok (Batch zero)) read full space = Ok (Batch zero)
-checked (Ok (Batch (suc n))) read full space =
+checked (Ok None) read full space = Ok None
+checked (Ok (Some zero)) read full space = Ok (Some zero)
+checked (Ok (Some (suc n))) read full space =
     cond (nat_le (read + suc n) most_rows)
     (cond full (Err TooManyBatches)
-    (cond (nat_le (suc n) space) (Ok (Batch (suc n))) (Err TableFull)))
+    (cond (nat_le (suc n) space) (Ok (Some (suc n))) (Err TableFull)))
     (Err TooManyRows)
 
 -- a row is before the one before it, if any

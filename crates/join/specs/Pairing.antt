@@ -1,7 +1,7 @@
 -- What the writing of a streamed row's pairs comes to, before they are counted to the unfrozen.
 use Rattle.std.specs.Prelude.{◌≡◌, ℕ, ◌+◌, ◌≤◌, List, length, take, drop}
 use Rattle.rows.specs.declared.row.Row.{Row}
-use Rattle.sources.specs.declared.source.Closing.{Closing}
+use Rattle.sources.specs.Meaning.{Closing}
 use Rattle.pipeline.specs.declared.entry.Entry.{Entry}
 use Rattle.pipeline.specs.Block.{queued, pushed}
 use Rattle.pipeline.specs.Held.{holding}

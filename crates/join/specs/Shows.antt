@@ -3,7 +3,7 @@ use Rattle.std.specs.Prelude.{◌≡◌, ℕ, zero, suc, Bool, cond, List, lengt
 use Rattle.std.specs.declared.cmp.Ordering.{Ordering}
 use Rattle.rows.specs.declared.reading.Reading.{Reading}
 use Rattle.rows.specs.declared.row.Row.{Row}
-use Rattle.sources.specs.declared.source.Closing.{Closing}
+use Rattle.sources.specs.Meaning.{Closing}
 use Rattle.pipeline.specs.declared.entry.Entry.{Entry}
 use Rattle.pipeline.specs.Block.{queued}
 use Rattle.pipeline.specs.Held.{Holding, holding, run_at}

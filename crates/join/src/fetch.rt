@@ -1,6 +1,6 @@
 ghost use Rattle.std.specs.Prelude.{◌≡◌, ◌+◌, ◌≤◌, List, length, take, is_some};
 ghost use Rattle.rows.specs.declared.row.Row.{Row as RowOf};
-ghost use Rattle.sources.specs.declared.source.Closing.{Closing as ClosingOf};
+ghost use Rattle.sources.specs.Meaning.{Closing as ClosingOf};
 ghost use Rattle.pipeline.specs.Freezing.{asking};
 ghost use Rattle.join.specs.declared.phase.Phase.TheVariants.{Fetching};
 ghost use Rattle.machine.specs.Machine.{Setting, Streamed, streamed_read, disorder, step_of};
@@ -12,7 +12,6 @@ use crate::load::{first_unsorted, last_row, next_size};
 use crate::parts::StreamedBatch;
 use crate::phase::Phase;
 use crate::settle::freeze_unfrozen;
-use crate::sides::streamed_side_of;
 use crate::state::Join;
 use crate::turn::Step;
 use filters::filter::Filter;
@@ -20,7 +19,7 @@ use machine::fault::JoinFault;
 use pipeline::entry::Entry;
 use rows::order::KeyOrder;
 use rows::row::Row;
-use sources::source::{Next, Source};
+use sources::source::Source;
 
 // The first call goes on to the first run; a later load ends a turn.
 fn after_fetch_of(first: bool) -> Phase
@@ -56,15 +55,15 @@ impl<K: Copy> Join<K> {
         let read = self.streamed.read();
         let n = match next_size(source, read, false, self.limits.streamed) {
             Err(fault) => {
-                let side = streamed_side_of(self.limits.kind);
+                let side = self.limits.kind.streamed_side();
                 return self.stop(fault.on(side, read));
             }
-            Ok(Next::End) => {
+            Ok(None) => {
                 self.streamed.ended = true;
                 self.phase = after_fetch_of(first);
                 return Step::Going;
             }
-            Ok(Next::Batch(n)) => n,
+            Ok(Some(n)) => n,
         };
         if n == 0 {
             let _ = source.take(table);
@@ -100,24 +99,14 @@ impl<K: Copy> Join<K> {
         ensures limits { self.new.limits ≡ self.old.limits }
     {
         let read = self.streamed.read();
-        let taken = &table[0..n];
+        let taken = &table[..n];
         if let Some(place) = first_unsorted(order, &self.streamed_last, taken, read) {
-            self.streamed = StreamedBatch {
-                first: read,
-                rows: 0,
-                at: 0,
-                ended: false,
-            };
-            let side = streamed_side_of(self.limits.kind);
+            self.streamed = StreamedBatch::new(read, 0);
+            let side = self.limits.kind.streamed_side();
             return self.stop(JoinFault::Unsorted { side, place });
         }
         self.streamed_last = last_row(self.streamed_last, taken);
-        self.streamed = StreamedBatch {
-            first: read,
-            rows: n,
-            at: 0,
-            ended: false,
-        };
+        self.streamed = StreamedBatch::new(read, n);
         self.phase = after_fetch_of(first);
         Step::Going
     }

@@ -15,7 +15,6 @@ mod pass;
 mod phase;
 mod report;
 mod settle;
-mod sides;
 mod state;
 mod stop;
 mod turn;

@@ -1,4 +1,4 @@
-ghost use Rattle.std.specs.Prelude.{◌≡◌, ℕ, ◌+◌, ◌-◌, ◌<◌, ◌≤◌, Bool, true, false, cond, length};
+ghost use Rattle.std.specs.Prelude.{◌≡◌, ◌+◌, ◌≤◌, length};
 ghost use Rattle.sources.specs.Meaning.{upcoming};
 ghost use Rattle.machine.specs.Machine.{disorder, last_of};
 ghost use Rattle.join.specs.Loads.{on_side, checked, breaks};
@@ -9,8 +9,7 @@ use rows::kind::Side;
 use rows::order::KeyOrder;
 use rows::row::Row;
 use sources::fault::SourceFault;
-use sources::source::{Next, Source};
-use std::cmp::Ordering;
+use sources::source::Source;
 
 // The most rows that a side may have.
 pub(crate) const MOST_ROWS: usize = 16_777_215;
@@ -53,26 +52,16 @@ pub(crate) fn next_size<S: Source>(
     read: u32,
     full: bool,
     space: usize,
-) -> Result<Next, LoadFault>
+) -> Result<Option<usize>, LoadFault>
     requires { read ≤ 16777215 }
     ensures { result ≡ checked (upcoming (S.Source.batches source.now) (S.Source.closing source.now)) read full space }
 {
-    let next = source.size()?;
-    if let Next::Batch(n) = next {
-        if n == 0 {
-            return Ok(next);
-        }
-        if n > MOST_ROWS - read as usize {
-            return Err(LoadFault::TooManyRows);
-        }
-        if full {
-            return Err(LoadFault::TooManyBatches);
-        }
-        if n > space {
-            return Err(LoadFault::TableFull);
-        }
+    match source.size()? {
+        Some(n) if n > MOST_ROWS - read as usize => Err(LoadFault::TooManyRows),
+        Some(n) if n > 0 && full => Err(LoadFault::TooManyBatches),
+        Some(n) if n > space => Err(LoadFault::TableFull),
+        next => Ok(next),
     }
-    Ok(next)
 }
 
 // Whether a row is before the one before it, if any.
@@ -81,13 +70,7 @@ where
     O::Key: Copy,
     ensures { result ≡ breaks (O.KeyOrder.within order.now) last.now row.now }
 {
-    match last {
-        None => false,
-        Some(earlier) => match order.compare_within(&earlier.key, &row.key) {
-            Ordering::Greater => true,
-            Ordering::Less | Ordering::Equal => false,
-        },
-    }
+    last.is_some_and(|earlier| order.compare_within(&earlier.key, &row.key).is_gt())
 }
 
 // The place of the first row that is before its predecessor, of rows from the place `first` on; `last` is the row before
@@ -104,13 +87,11 @@ where
     ensures { result ≡ disorder (O.KeyOrder.within order.now) last.now rows.now first }
 {
     let mut before = *last;
-    let mut place = first;
-    for row in rows {
+    for (i, row) in rows.iter().enumerate() {
         if is_unsorted(order, &before, row) {
-            return Some(place);
+            return Some(first + i as u32);
         }
         before = Some(*row);
-        place += 1;
     }
     None
 }
@@ -119,9 +100,5 @@ where
 pub(crate) fn last_row<K: Copy>(last: Option<Row<K>>, rows: &[Row<K>]) -> Option<Row<K>>
     ensures { result ≡ last_of last rows.now }
 {
-    let n = rows.len();
-    if n == 0 {
-        return last;
-    }
-    Some(rows[n - 1])
+    rows.last().copied().or(last)
 }

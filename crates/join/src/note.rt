@@ -11,7 +11,6 @@ ghost use Rattle.join.specs.Shows.{Memory, with_block, core_of, streamed_of, buf
 
 use crate::phase::Phase;
 use crate::settle::freeze_everything;
-use crate::sides::lists_streamed;
 use crate::state::Join;
 use filters::filter::Filter;
 use pipeline::entry::Entry;
@@ -41,7 +40,7 @@ impl<K: Copy> Join<K> {
     {
         self.phase = Phase::Passing;
         let kind = self.limits.kind;
-        if !lists_streamed(kind) {
+        if !kind.lists_streamed() {
             return;
         }
         let place = self.streamed.first + self.streamed.at as u32;

@@ -1,5 +1,5 @@
 ghost use Rattle.std.specs.Prelude.{◌≡◌, ◌≤◌, Some, MatchResult};
-ghost use Rattle.join.specs.Opening.{is_batch_size, is_table, is_memory, refusal, Checked, SameLimits};
+ghost use Rattle.join.specs.Opening.{is_table, is_memory, refusal, Checked, SameLimits};
 
 use crate::limits::Limits;
 use machine::fault::OpenRefusal;
@@ -23,16 +23,10 @@ impl Opening {
     }
 }
 
-fn is_batch(size: usize) -> bool
-    ensures { result ≡ is_batch_size size }
-{
-    1 <= size && size <= LARGEST_BATCH
-}
-
 fn is_table_length(rows: usize) -> bool
     ensures { result ≡ is_table rows }
 {
-    1 <= rows && rows <= LARGEST_TABLE
+    (1..=LARGEST_TABLE).contains(&rows)
 }
 
 // The block holds less than a batch of entries when a run is passed, and beside them every row of the buffered table may then be
@@ -55,10 +49,8 @@ pub fn check(
 ) -> Result<Opening, OpenRefusal>
     ensures { MatchResult result (λ o. Checked kind batch_size streamed_table buffered_table block o.limits) (λ e. refusal kind batch_size streamed_table buffered_table block ≡ Some e) }
 {
-    let Some(known) = Kind::from_number(kind) else {
-        return Err(OpenRefusal::Kind);
-    };
-    if !is_batch(batch_size) {
+    let kind = Kind::try_from(kind)?;
+    if !(1..=LARGEST_BATCH).contains(&batch_size) {
         return Err(OpenRefusal::BatchSize);
     }
     if !has_memory(batch_size, streamed_table, buffered_table, block) {
@@ -66,7 +58,7 @@ pub fn check(
     }
     Ok(Opening {
         limits: Limits {
-            kind: known,
+            kind,
             batch: batch_size,
             streamed: streamed_table,
             buffered: buffered_table,

@@ -2,7 +2,7 @@ ghost use Rattle.std.specs.Prelude.{◌≡◌, ℕ, ◌+◌, ◌<◌, ◌≤◌,
 ghost use Rattle.std.specs.declared.cmp.Ordering.TheVariants.{Equal as Same};
 ghost use Rattle.std.specs.declared.cmp.Ordering.{Ordering as Compared};
 ghost use Rattle.rows.specs.declared.row.Row.{Row as RowOf};
-ghost use Rattle.sources.specs.declared.source.Closing.{Closing as ClosingOf};
+ghost use Rattle.sources.specs.Meaning.{Closing as ClosingOf};
 ghost use Rattle.pipeline.specs.Freezing.{asking};
 ghost use Rattle.pipeline.specs.Block.{queued};
 ghost use Rattle.pipeline.specs.Held.{holding, run_at, pairs_with};
@@ -29,11 +29,8 @@ impl<K: Copy> Join<K> {
         ensures does { (c : Setting K) (m : Memory K) → FitsMemory self.old.limits m → compared c Same (streamed_of self.old m) (buffered_of self.old m) (queued self.old.queue m.block) (counts_of self.old.counts) ≡ going (core_of self.new m) }
         ensures limits { self.new.limits ≡ self.old.limits }
     {
-        let row = if self.buffered.count > 0 {
-            self.buffered.batches[0].start
-        } else {
-            0
-        };
+        let batches = &self.buffered.batches[..self.buffered.count];
+        let row = batches.first().map_or(0, |batch| batch.start);
         let left = self.buffered.end - self.buffered.start;
         self.phase = Phase::Pairing(Pairs {
             batch: 0,

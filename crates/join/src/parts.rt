@@ -1,4 +1,4 @@
-ghost use Rattle.std.specs.Prelude.{◌≡◌, ◌+◌, ◌≤◌};
+ghost use Rattle.std.specs.Prelude.{◌≡◌, ◌+◌, ◌≤◌, false};
 
 // The streamed batch that is held: the place of its first row, how many rows it has, and the next of them.
 #[derive(Clone, Copy)]
@@ -21,6 +21,20 @@ pub struct Counts {
 }
 
 impl StreamedBatch {
+    // A batch of so many rows, the first of which has a place; none of them is passed.
+    pub(crate) fn new(first: u32, rows: usize) -> StreamedBatch
+        requires { first + rows ≤ 16777215 }
+        ensures rows { (result.first ≡ first) × (result.rows ≡ rows) }
+        ensures unpassed { (result.at ≡ 0) × (result.ended ≡ false) }
+    {
+        StreamedBatch {
+            first,
+            rows,
+            at: 0,
+            ended: false,
+        }
+    }
+
     // How many rows of the side were read.
     pub(crate) fn read(&self) -> u32
         ensures { result ≡ self.now.first + self.now.rows }

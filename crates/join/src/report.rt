@@ -1,14 +1,13 @@
-ghost use Rattle.std.specs.Prelude.{◌≡◌, ℕ, ◌+◌};
-ghost use Rattle.merge.specs.Sides.{left_of, right_of};
+ghost use Rattle.std.specs.Prelude.{◌≡◌};
 ghost use Rattle.machine.specs.Report.{reported};
 ghost use Rattle.join.specs.Shows.{Memory, FitsMemory, core_of, state_of};
 
 use crate::phase::Phase;
 use crate::state::Join;
 use machine::answer::{Report, State};
-use rows::kind::Kind;
 
-// With records due a join waits for the sink; otherwise the phase tells.
+// With records due a join waits for the sink; otherwise the phase tells. The phase is what a join keeps between two calls, so
+// it is matched here.
 fn state_by(due: usize, phase: Phase) -> State
     ensures { result ≡ state_of due phase }
 {
@@ -28,28 +27,13 @@ fn state_by(due: usize, phase: Phase) -> State
     }
 }
 
-// What the left and the right side have, of what the streamed and the buffered side have.
-fn by_left_and_right(kind: Kind, streamed: u32, buffered: u32) -> (u32, u32)
-    ensures left { result.0 ≡ left_of kind streamed buffered }
-    ensures right { result.1 ≡ right_of kind streamed buffered }
-{
-    match kind {
-        Kind::Right => (buffered, streamed),
-        Kind::Inner | Kind::Left | Kind::Full => (streamed, buffered),
-    }
-}
-
 impl<K> Join<K> {
     // How far the join has come. What the tables, the block and the sources hold does not matter for it.
     pub(crate) fn report_now(&self) -> Report
         ensures { (m : Memory K) → FitsMemory self.now.limits m → result ≡ reported self.now.limits.kind (core_of self.now m) }
     {
         let read = self.buffered.base + self.buffered.held as u32;
-        let (left_read, right_read) = by_left_and_right(
-            self.limits.kind,
-            self.streamed.read(),
-            read,
-        );
+        let (left_read, right_read) = self.limits.kind.oriented(self.streamed.read(), read);
         Report {
             state: state_by(self.queue.due, self.phase),
             turns: self.counts.turns,

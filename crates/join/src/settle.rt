@@ -14,10 +14,7 @@ use rows::kind::Kind;
 fn defers<F>(filter: &Option<F>, kind: Kind) -> bool
     ensures { result ≡ is_deferred (is_some filter.now) kind }
 {
-    match (filter, kind) {
-        (None, _) | (Some(_), Kind::Inner) => false,
-        (Some(_), Kind::Left) | (Some(_), Kind::Right) | (Some(_), Kind::Full) => true,
-    }
+    filter.is_some() && kind.lists_streamed()
 }
 
 // What is frozen is due at once, unless it is deferred.

@@ -1,4 +1,4 @@
-use Rattle.std.proofs.Common.{Bool, sym, ap, ◌∙◌}
+use Rattle.std.proofs.Common.{is_ok, Bool, sym, ap, ◌∙◌}
 use Rattle.pipeline.specs.Block.{queued, correct, release}
 use Rattle.pipeline.specs.Freezing.{asking, judged_all}
 use Rattle.machine.specs.Machine.{flush}
@@ -18,7 +18,7 @@ returns-then-defers g c =
     let after = counts c.freeze_all.new.self c.freeze_all.new.block m.roomy in
     record {
       queue = last.holds ∙ ap (correct c.args.kind) m.holds ∙ ap (λ (b : Bool). flush b c.args.kind asks (queued q block)) (sym c.if-defers.true ∙ c.defers.ensures);
-      states = marked c.args.kind asks c.args.base (judged_all asks (queued q block).unfrozen) c.args.states.now c.freeze_all.new.states c.freeze_all.result m.answers c.freeze_all.ensures.states;
+      states = marked c.args.kind asks c.args.base (judged_all asks (queued q block).unfrozen) c.args.states.now c.freeze_all.new.states (is_ok c.freeze_all.result) m.answers c.freeze_all.ensures.states;
       roomy = last.roomy;
       numbers = (last.frozen, (last.unfrozen ∙ after.1 ∙ m.unfrozen, last.noted ∙ after.0 ∙ m.noted));
     }
@@ -35,7 +35,7 @@ returns-else-defers g c =
     let after = counts c.freeze_all.new.self c.freeze_all.new.block m.roomy in
     record {
       queue = last.holds ∙ ap release m.holds ∙ ap (λ (b : Bool). flush b c.args.kind asks (queued q block)) (sym c.if-defers.false ∙ c.defers.ensures);
-      states = marked c.args.kind asks c.args.base (judged_all asks (queued q block).unfrozen) c.args.states.now c.freeze_all.new.states c.freeze_all.result m.answers c.freeze_all.ensures.states;
+      states = marked c.args.kind asks c.args.base (judged_all asks (queued q block).unfrozen) c.args.states.now c.freeze_all.new.states (is_ok c.freeze_all.result) m.answers c.freeze_all.ensures.states;
       roomy = last.roomy;
       numbers = (last.frozen, (last.unfrozen ∙ after.1 ∙ m.unfrozen, last.noted ∙ after.0 ∙ m.noted));
     }

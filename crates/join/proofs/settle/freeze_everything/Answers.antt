@@ -1,4 +1,4 @@
-use Rattle.std.proofs.Common.{is_some, ap, ◌∙◌, arith}
+use Rattle.std.proofs.Common.{is_ok, is_some, ap, ◌∙◌, arith}
 use Rattle.pipeline.specs.Block.{queued}
 use Rattle.pipeline.specs.Freezing.{asking, judged_all}
 use Rattle.machine.specs.Machine.{let_go, is_deferred}
@@ -26,7 +26,7 @@ returns g c =
     let after = c.let_frozen_go.ensures in
     record {
       queue = after.queue ∙ ap (let_go (is_deferred (is_some c.args.filter.now) c.args.kind)) m.holds;
-      states = marked c.args.kind asks c.args.base (judged_all asks (queued q block).unfrozen) c.args.states.now c.freeze_all.new.states c.freeze_all.result m.answers c.freeze_all.ensures.states;
+      states = marked c.args.kind asks c.args.base (judged_all asks (queued q block).unfrozen) c.args.states.now c.freeze_all.new.states (is_ok c.freeze_all.result) m.answers c.freeze_all.ensures.states;
       roomy = after.roomy;
       numbers = (omega (arith, after.numbers.0, m.frozen, freeze_all_count q block room c.requires.1 asks), (after.numbers.1.0, after.numbers.1.1 ∙ m.noted));
     }

@@ -1,12 +1,11 @@
-use Rattle.std.proofs.Common.{◌≡◌, ◌<◌, ◌≤◌, false, length, is_some, Ok, sym, refl, arith}
-use Rattle.sources.specs.declared.source.Next.TheVariants.{Batch}
+use Rattle.std.proofs.Common.{◌≡◌, ◌<◌, false, is_some, Some, Ok, sym, refl, arith}
 use Rattle.sources.specs.Meaning.{upcoming}
 use Rattle.join.specs.Loads.{checked}
 use Rattle.pipeline.specs.Block.{queued}
 use Rattle.pipeline.specs.Freezing.{asking}
 use Rattle.pipeline.specs.States.{states_of}
 use Rattle.join.specs.Shows.{memory, setting, streamed_of}
-use Rattle.join.proofs.Fetching.{fetch_stops, fetch_froze, fetch_used, read_is, checked_fits}
+use Rattle.join.proofs.Fetching.{fetch_stops, fetch_froze, fetch_used, read_is}
 use Rattle.join.proofs.state.Join.fetch.Goals as goal
 
 pub returns-in-Err : goal.returns-in-Err
@@ -14,13 +13,14 @@ returns-in-Err g c =
     let o = c.args.order.now in
     let f = c.args.filter.now in
     let j = c.args.self.now in
-    let s = setting j.limits (g.O.KeyOrder.within o) (g.O.KeyOrder.across o) (asking g.F.Filter.says f) (is_some f) in
     let sl = g.S.Source.batches c.args.source.now in
     let sc = g.S.Source.closing c.args.source.now in
     record {
-      does = λ bl bc bt. fetch_stops s j c.args.first sl sc bl bc c.args.table.now bt c.args.block.now c.read-read.result c.requires.phase.0 c.requires.lengths.0 c.read-read.ensures
-          c.in-Err.fault c.streamed_side_of-side.result c.on.result c.stop.result _
-          c.in-Err.ensures c.streamed_side_of-side.ensures c.on.ensures c.stop.ensures.says (c.stop.ensures.does (memory sl sc bl bc c.args.table.now bt c.args.block.now));
+      does = λ bl bc bt.
+          let m = memory sl sc bl bc c.args.table.now bt c.args.block.now in
+          fetch_stops j c.args.first (g.O.KeyOrder.within o) (g.O.KeyOrder.across o) (asking g.F.Filter.says f) (is_some f) m c.read-read.result c.requires.phase.0 c.requires.lengths.0 c.read-read.ensures
+          c.in-Err.fault c.streamed_side-side.result c.on.result c.stop.result _
+          c.in-Err.ensures c.streamed_side-side.ensures c.on.ensures c.stop.ensures.says (c.stop.ensures.does m);
       limits = c.stop.ensures.limits;
     }
 
@@ -29,15 +29,15 @@ returns-then-self-gt0 g c =
     let o = c.args.order.now in
     let f = c.args.filter.now in
     let j = c.args.self.now in
-    let s = setting j.limits (g.O.KeyOrder.within o) (g.O.KeyOrder.across o) (asking g.F.Filter.says f) (is_some f) in
     let sl = g.S.Source.batches c.args.source.now in
     let sc = g.S.Source.closing c.args.source.now in
-    let n = c.in-Ok-Batch.n in
+    let n = c.in-Ok-Some.n in
     let some : 0 < n = omega (arith, c.if-n-eq0.false) in
-    let told = c.in-Ok-Batch.ensures in
-    let says : Ok (Batch n) ≡ checked (upcoming sl sc) c.read-read.result false j.limits.streamed = cc in
+    let told = c.in-Ok-Some.ensures in
+    let says : Ok (Some n) ≡ checked (upcoming sl sc) c.read-read.result false j.limits.streamed = cc in
     record {
-      does = λ bl bc bt. fetch_froze s j c.args.first sl sc bl bc c.args.table.now bt c.args.block.now c.read-read.result c.requires.phase.0 c.requires.lengths.0 c.read-read.ensures
+      does = λ bl bc bt.
+          fetch_froze j c.args.first (g.O.KeyOrder.within o) (g.O.KeyOrder.across o) (asking g.F.Filter.says f) (is_some f) (memory sl sc bl bc c.args.table.now bt c.args.block.now) c.read-read.result c.requires.phase.0 c.requires.lengths.0 c.read-read.ensures
           n (states_of c.freeze_unfrozen.new.states) (queued c.freeze_unfrozen.new.queue c.freeze_unfrozen.new.block)
           says some c.if-self-gt0.true c.requires.lengths.1 c.freeze_unfrozen.ensures.states.0 c.freeze_unfrozen.ensures.queue;
       limits = refl;
@@ -48,28 +48,26 @@ returns g c =
     let o = c.args.order.now in
     let f = c.args.filter.now in
     let j = c.args.self.now in
-    let s = setting j.limits (g.O.KeyOrder.within o) (g.O.KeyOrder.across o) (asking g.F.Filter.says f) (is_some f) in
     let sl = g.S.Source.batches c.args.source.now in
     let sc = g.S.Source.closing c.args.source.now in
     let sl' = g.S.Source.batches c.take-2.new.self in
     let sc' = g.S.Source.closing c.take-2.new.self in
-    let table = c.args.table.now in
     let table' = c.take-2.new.memory in
     let block = c.args.block.now in
-    let n = c.in-Ok-Batch.n in
+    let n = c.in-Ok-Some.n in
     let some : 0 < n = omega (arith, c.if-n-eq0.false) in
-    let told = c.in-Ok-Batch.ensures in
-    let says : Ok (Batch n) ≡ checked (upcoming sl sc) c.read-read.result false j.limits.streamed = cc in
-    let none : j.queue.unfrozen ≡ 0 = omega (arith, c.if-self-gt0.false) in
-    let fits : n ≤ length table = omega (arith, checked_fits (upcoming sl sc) c.read-read.result j.limits.streamed n says, c.requires.lengths.0) in
+    let told = c.in-Ok-Some.ensures in
+    let says : Ok (Some n) ≡ checked (upcoming sl sc) c.read-read.result false j.limits.streamed = cc in
     record {
-      does = λ bl bc bt. fetch_used s j c.args.first sl sc bl bc table bt block c.read-read.result c.requires.phase.0 c.requires.lengths.0 c.read-read.ensures
+      does = λ bl bc bt.
+          let m = memory sl sc bl bc c.args.table.now bt block in
+          fetch_used j c.args.first (g.O.KeyOrder.within o) (g.O.KeyOrder.across o) (asking g.F.Filter.says f) (is_some f) m c.read-read.result c.requires.phase.0 c.requires.lengths.0 c.read-read.ensures
           n sl' sc' table' c.use_streamed.result _
-          says some none fits c.take-2.ensures.left c.take-2.ensures.memory
-          (c.use_streamed.ensures.does s (memory sl' sc' bl bc table' bt block) (streamed_of j (memory sl sc bl bc table bt block)) refl refl
+          says some (omega (arith, c.if-self-gt0.false)) c.take-2.ensures.left c.take-2.ensures.memory
+          (c.use_streamed.ensures.does (setting j.limits (g.O.KeyOrder.within o) (g.O.KeyOrder.across o) (asking g.F.Filter.says f) (is_some f)) (memory sl' sc' bl bc table' bt block) (streamed_of j m) refl refl
           (record {
             closing_same = sym c.take-2.ensures.closes;
-            read_same = read_is s j c.args.first sl sc bl bc table bt block c.read-read.result c.requires.phase.0 c.requires.lengths.0 c.read-read.ensures;
+            read_same = read_is j c.args.first (g.O.KeyOrder.within o) (g.O.KeyOrder.across o) (asking g.F.Filter.says f) (is_some f) m c.read-read.result c.requires.phase.0 c.requires.lengths.0 c.read-read.ensures;
             last_same = refl;
           }));
       limits = c.use_streamed.ensures.limits;

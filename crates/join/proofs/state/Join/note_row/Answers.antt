@@ -1,5 +1,5 @@
 use Rattle.std.proofs.Common.{◌≡◌, ◌<◌, true, length, is_some, sym, refl, ◌∙◌, arith}
-use Rattle.merge.specs.Sides.{is_outer}
+use Rattle.rows.specs.Sides.{is_outer}
 use Rattle.pipeline.specs.Block.{queued}
 use Rattle.pipeline.specs.Freezing.{asking}
 use Rattle.pipeline.proofs.Queues.{counts}
