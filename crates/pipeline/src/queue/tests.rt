@@ -17,6 +17,14 @@ impl Filter for Refuse {
     }
 }
 
+fn judge(filter: &Option<Refuse>, kind: Kind) -> Judge<'_, Refuse> {
+    Judge {
+        filter,
+        kind,
+        base: 0,
+    }
+}
+
 fn row(place: u32) -> Entry {
     Entry::lone(Record::LeftAlone(place))
 }
@@ -39,7 +47,7 @@ fn fills_the_block_to_its_last_entry(rt: HostRuntime) {
     assert_eq!(rt; queue.push(&mut block, row(2)), Err(Refused));
     assert_eq!(rt; queue.note_rows(Kind::Full, 10, 1, &mut block), Err(Refused));
     assert_eq!(rt; queue.correct(Kind::Full, &mut block), Err(Refused), "a row is not frozen yet");
-    assert_eq!(rt; queue.freeze_all(&Some(Refuse), Kind::Full, 0, &mut states, &mut block), Ok(()));
+    assert_eq!(rt; queue.freeze_all(&judge(&Some(Refuse), Kind::Full), &mut states, &mut block), Ok(()));
     assert_eq!(rt; queue.correct(Kind::Full, &mut block), Ok(()));
     assert_eq!(rt; queue.push(&mut block, row(2)), Err(Refused), "records are due");
     let records = [
@@ -71,7 +79,7 @@ fn lets_only_the_rows_of_the_batch_leave(rt: HostRuntime) {
         &block,
         &[Record::RightAlone(7), Record::RightAlone(8)],
     );
-    assert_eq!(rt; queue.freeze_all(&None::<Refuse>, Kind::Full, 0, &mut states, &mut block), Ok(()));
+    assert_eq!(rt; queue.freeze_all(&judge(&None, Kind::Full), &mut states, &mut block), Ok(()));
     assert_eq!(rt; queue.release(&mut block), Ok(()));
     check_due(&rt, &mut queue, &block, &[Record::RightAlone(9)]);
 }
@@ -99,7 +107,7 @@ fn hands_over_a_failed_row_alone_once(rt: HostRuntime) {
             &mut block,
             Entry::pair(at, Record::Pair(0, 1), reading, reading),
         ), Ok(()));
-    assert_eq!(rt; queue.freeze(&Some(Refuse), Kind::Left, 0, &mut states, &mut block), Ok(()));
+    assert_eq!(rt; queue.freeze(&judge(&Some(Refuse), Kind::Left), &mut states, &mut block), Ok(()));
     assert_eq!(rt; queue.correct(Kind::Left, &mut block), Ok(()));
     check_due(&rt, &mut queue, &block, &[Record::LeftAlone(0)]);
 }
