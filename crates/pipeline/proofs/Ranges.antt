@@ -1,6 +1,5 @@
 -- The batches held, which are the first of an array: changes of the last one, sums of their rows, which of them leave.
-use Rattle.std.proofs.Common.{◌≡◌, ℕ, zero, suc, ◌+◌, ◌-◌, ◌<◌, ◌≤◌, min, Bool, true, false, cond, ◌&&◌, ltb, leb, List, [], ◌∷◌, ◌++◌, length, get_or, take, drop, set, Option, sym, refl, ap, ◌∙◌, arith, get_or-take}
-use Rattle.std.proofs.lemmas.List.{length-take, take_more}
+use Rattle.std.proofs.Common.{◌≡◌, ℕ, zero, suc, ◌+◌, ◌-◌, ◌<◌, ◌≤◌, min, Bool, true, false, cond, ◌&&◌, ltb, leb, List, [], ◌∷◌, ◌++◌, length, get_or, take, drop, set, Option, sym, refl, ap, ◌∙◌, arith}
 use Rattle.std.proofs.lemmas.Iterator.{index_from_first}
 use Rattle.std.proofs.lemmas.List.Sums.{sum_by-cons}
 use Rattle.std.specs.List.{AllWithin, HoldsAt, sum_by}
@@ -92,13 +91,6 @@ rows_of_split (suc k) (x ∷ l) = let e = rows_of_split k l in omega arith
 
 pub rows_behind : (k r n : ℕ) (l : List BufferedBatch) → r ≡ rows_of (take k l) → rows_of l ≡ n → rows_of (drop k l) ≡ n - r
 rows_behind k r n l e f = let split = rows_of_split k l in omega arith
-
--- one more of a sum over the first m
-pub rows_more : (l : List BufferedBatch) (m j r : ℕ) (d : BufferedBatch) → j < length (take m l) → r ≡ rows_of (take j l) → r + (get_or (take m l) j d).rows ≡ rows_of (take (j + 1) l)
-rows_more l m j r d h e =
-    let long : length (take m l) ≡ min m (length l) = length-take m l in
-    ap (λ n. n + (get_or (take m l) j d).rows) e ∙ ap (λ (b : BufferedBatch). rows_of (take j l) + b.rows) (get_or-take m l j d (omega arith))
-    ∙ sym (rows_of_push (take j l) (get_or l j d)) ∙ ap rows_of (sym (take_more l j d (omega arith)))
 
 rows_of_from : (l : List BufferedBatch) → rows_of l ≡ sum_by (λ b. b.rows) l
 rows_of_from [] = refl

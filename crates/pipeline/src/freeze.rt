@@ -9,33 +9,36 @@ use filters::filter::Filter;
 use rows::kind::Kind;
 use rows::reading::Reading;
 
-// What the filter says of the pair; without a filter every pair passes.
-fn says_yes<F: Filter>(filter: &Option<F>, left: &Reading, right: &Reading) -> bool
-    ensures { result ≡ asking F.Filter.says filter.now left.now right.now }
-{
-    match filter {
-        None => true,
-        Some(filter) => filter.ask(left, right).is_yes(),
+// What pairs are judged with: the filter, the kind of join, and the place of the first buffered row that has a state.
+#[derive_where(Clone, Copy)]
+pub struct Judge<'a, F> {
+    pub filter: &'a Option<F>,
+    pub kind: Kind,
+    pub base: u32,
+}
+
+impl<'a, F: Filter> Judge<'a, F> {
+    // What the filter says of a pair; without a filter every pair passes.
+    fn says_yes(&self, left: &Reading, right: &Reading) -> bool
+        ensures { result ≡ asking F.Filter.says self.now.filter.now left.now right.now }
+    {
+        match self.filter {
+            None => true,
+            Some(filter) => filter.ask(left, right).is_yes(),
+        }
     }
 }
 
-// Asks the filter of each pair, writes its verdict, and marks it with the pair's buffered row; `base` is the place of the
-// first row that has a state. Lone rows stay as they are.
-pub fn freeze_entries<F: Filter>(
-    filter: &Option<F>,
-    kind: Kind,
-    base: u32,
-    states: &mut States,
-    entries: &mut [Entry],
-)
-    ensures entries { entries.new ≡ judged_all (asking F.Filter.says filter.now) entries.old }
-    ensures states { states_of states.new ≡ marking kind base (judged_all (asking F.Filter.says filter.now) entries.old) (states_of states.old) }
+// Asks the filter of each pair, writes its verdict, and marks it with the pair's buffered row. Lone rows stay as they are.
+pub fn freeze_entries<F: Filter>(judge: &Judge<F>, states: &mut States, entries: &mut [Entry])
+    ensures entries { entries.new ≡ judged_all (asking F.Filter.says judge.now.filter.now) entries.old }
+    ensures states { states_of states.new ≡ marking judge.now.kind judge.now.base (judged_all (asking F.Filter.says judge.now.filter.now) entries.old) (states_of states.old) }
 {
     for entry in entries.iter_mut() {
         if entry.row.is_some() {
-            let yes = says_yes(filter, &entry.left, &entry.right);
+            let yes = judge.says_yes(&entry.left, &entry.right);
             entry.verdict = Some(yes);
-            let row = partner_place(kind, entry.record).saturating_sub(base);
+            let row = partner_place(judge.kind, entry.record).saturating_sub(judge.base);
             states.mark(row as usize, yes);
         }
     }
@@ -54,7 +57,7 @@ pub fn keep_passing(entries: &mut [Entry]) -> usize
     ensures count { result ≡ length (passing entries.old) }
 {
     let mut left = 0;
-    // by index: an entry is written before the place where it is read
+    // by index: an entry is written before the place where it is read; a loop shared with correction would need a state and a closure
     for i in 0..entries.len() {
         let entry = entries[i];
         if is_kept(entry.verdict) {

@@ -6,7 +6,7 @@ ghost use Rattle.pipeline.specs.States.{states_of, marking};
 
 use crate::correction::correct_entries;
 use crate::entry::Entry;
-use crate::freeze::{freeze_entries, keep_passing};
+use crate::freeze::{Judge, freeze_entries, keep_passing};
 use crate::noted::{Leaving, bring_in, bring_oldest, list_failed, most_failed};
 use crate::orient::buffered_record;
 use crate::refused::Refused;
@@ -147,21 +147,19 @@ impl Queue {
     // Freezes the unfrozen; the noted stay where they are.
     pub fn freeze<F: Filter>(
         &mut self,
-        filter: &Option<F>,
-        kind: Kind,
-        base: u32,
+        judge: &Judge<F>,
         states: &mut States,
         block: &mut [Entry],
     ) -> Result<(), Refused>
-        ensures block { Step (has_room 0 self.old block.old) (freeze (asking F.Filter.says filter.now)) self.old block.old result self.new block.new }
-        ensures states { states_of states.new ≡ (if is_ok result then marking kind base (judged_all (asking F.Filter.says filter.now) (queued self.old block.old).unfrozen) (states_of states.old) else states_of states.old) }
+        ensures block { Step (has_room 0 self.old block.old) (freeze (asking F.Filter.says judge.now.filter.now)) self.old block.old result self.new block.new }
+        ensures states { states_of states.new ≡ (if is_ok result then marking judge.now.kind judge.now.base (judged_all (asking F.Filter.says judge.now.filter.now) (queued self.old block.old).unfrozen) (states_of states.old) else states_of states.old) }
     {
         if !self.has_room(block, 0) {
             return Err(Refused);
         }
         let from = self.frozen;
         let to = from + self.unfrozen;
-        freeze_entries(filter, kind, base, states, &mut block[from..to]);
+        freeze_entries(judge, states, &mut block[from..to]);
         self.frozen = to;
         self.unfrozen = 0;
         Ok(())
@@ -170,14 +168,12 @@ impl Queue {
     // Freezes all: the noted buffered rows first, then the unfrozen.
     pub fn freeze_all<F: Filter>(
         &mut self,
-        filter: &Option<F>,
-        kind: Kind,
-        base: u32,
+        judge: &Judge<F>,
         states: &mut States,
         block: &mut [Entry],
     ) -> Result<(), Refused>
-        ensures block { Step (has_room 0 self.old block.old) (freeze_all (asking F.Filter.says filter.now)) self.old block.old result self.new block.new }
-        ensures states { states_of states.new ≡ (if is_ok result then marking kind base (judged_all (asking F.Filter.says filter.now) (queued self.old block.old).unfrozen) (states_of states.old) else states_of states.old) }
+        ensures block { Step (has_room 0 self.old block.old) (freeze_all (asking F.Filter.says judge.now.filter.now)) self.old block.old result self.new block.new }
+        ensures states { states_of states.new ≡ (if is_ok result then marking judge.now.kind judge.now.base (judged_all (asking F.Filter.says judge.now.filter.now) (queued self.old block.old).unfrozen) (states_of states.old) else states_of states.old) }
     {
         if !self.has_room(block, 0) {
             return Err(Refused);
@@ -191,7 +187,7 @@ impl Queue {
         bring_in(block, frozen, unfrozen, noted);
         self.frozen = frozen + noted;
         self.noted = 0;
-        self.freeze(filter, kind, base, states, block)
+        self.freeze(judge, states, block)
     }
 
     // One noted buffered row more.
@@ -213,7 +209,13 @@ impl Queue {
     }
 
     // Notes n buffered rows, from place `first` on.
-    pub fn note_rows(&mut self, kind: Kind, first: u32, n: usize, block: &mut [Entry]) -> Result<(), Refused>
+    pub fn note_rows(
+        &mut self,
+        kind: Kind,
+        first: u32,
+        n: usize,
+        block: &mut [Entry],
+    ) -> Result<(), Refused>
         ensures { Step (can_note first n self.old block.old) (noting kind first n) self.old block.old result self.new block.new }
     {
         if !self.can_note(first, n, block) {

@@ -5,5 +5,5 @@ use Rattle.pipeline.proofs.freeze.freeze_entries.Given as goal
 
 -- the entries before i are judged and marked, and those from i on will be
 abbrev pub invariant-loop-entry : goal.invariant-loop-entry
-invariant-loop-entry g l = (take l.entry-index l.entries ++ judged_all (asking g.F.Filter.says l.filter) (drop l.entry-index l.entries) ≡ judged_all (asking g.F.Filter.says l.filter) l.initial.entries)
-    × (marking l.kind l.base (judged_all (asking g.F.Filter.says l.filter) (drop l.entry-index l.entries)) (states_of l.states) ≡ marking l.kind l.base (judged_all (asking g.F.Filter.says l.filter) l.initial.entries) (states_of l.initial.states))
+invariant-loop-entry g l = (take l.entry-index l.entries ++ judged_all (asking g.F.Filter.says l.judge.filter.now) (drop l.entry-index l.entries) ≡ judged_all (asking g.F.Filter.says l.judge.filter.now) l.initial.entries)
+    × (marking l.judge.kind l.judge.base (judged_all (asking g.F.Filter.says l.judge.filter.now) (drop l.entry-index l.entries)) (states_of l.states) ≡ marking l.judge.kind l.judge.base (judged_all (asking g.F.Filter.says l.judge.filter.now) l.initial.entries) (states_of l.initial.states))

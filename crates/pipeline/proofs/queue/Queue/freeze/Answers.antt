@@ -8,10 +8,10 @@ pub returns : goal.returns
 returns g c =
     let q = c.args.self.now in
     let block = c.args.block.now in
-    let asks = asking g.F.Filter.says c.args.filter.now in
+    let asks = asking g.F.Filter.says c.args.judge.now.filter.now in
     let k = q.frozen + q.unfrozen - q.frozen in
     let all : k ≡ q.unfrozen = omega arith in
     record {
       block = freeze_step asks q block _ c.freeze_entries.new.entries k (sym c.has_room.ensures ∙ c.if-not-has_room.false) all c.freeze_entries.ensures.entries refl;
-      states = c.freeze_entries.ensures.states ∙ ap (λ n. marking c.args.kind c.args.base (judged_all asks (take n (drop q.frozen block))) (states_of c.args.states.now)) all;
+      states = c.freeze_entries.ensures.states ∙ ap (λ n. marking c.args.judge.now.kind c.args.judge.now.base (judged_all asks (take n (drop q.frozen block))) (states_of c.args.states.now)) all;
     }
