@@ -7,13 +7,12 @@ use Rattle.std.specs.List.{AllByRecursion}
 use Rattle.std.proofs.ByRecursion.{All-append}
 use Rattle.std.proofs.lemmas.Bool.{leb-false, ltb-false, lt-leb, lt-ltb, le-ltb, cond_both}
 use Rattle.rows.specs.declared.kind.Kind.{Kind}
-use Rattle.rows.specs.declared.kind.Kind.TheVariants.{Inner, Left, Right, Full}
 use Rattle.rows.specs.declared.reading.Reading.{Reading}
 use Rattle.rows.specs.declared.record.Record.{Record}
 use Rattle.rows.specs.declared.row.Row.{Row}
 use Rattle.sources.specs.declared.fault.SourceFault.{SourceFault}
 use Rattle.rows.specs.Sides.{oriented}
-use Rattle.rows.specs.Sides.{left_of as left_side, right_of as right_side}
+use Rattle.rows.specs.Sides.{left_of, right_of}
 use Rattle.law.specs.Pipe.{Mark, Pipe, pipe, judged, fixed}
 use Rattle.law.specs.Pipe.{Entry as plain_entry, freeze_full as plain_freeze_full, freeze_all as plain_freeze_all, flush as plain_flush}
 use Rattle.law.specs.Machine as plain_machine
@@ -21,7 +20,7 @@ use Rattle.law.specs.Machine.{going, answered}
 use Rattle.pipeline.specs.declared.entry.Entry.{Entry}
 use Rattle.pipeline.specs.declared.entry.StreamedRow.{StreamedRow}
 use Rattle.pipeline.specs.Entries.{lone}
-use Rattle.pipeline.specs.Orient.{left_of, right_of, streamed_alone, paired, buffered_place}
+use Rattle.pipeline.specs.Orient.{streamed_alone, paired, buffered_place}
 use Rattle.pipeline.specs.Freezing.{judged_all}
 use Rattle.pipeline.specs.Block.{Queued, pushed}
 use Rattle.pipeline.specs.Held.{pairs_with, matching}
@@ -30,19 +29,6 @@ use Rattle.machine.specs.Machine.{going as goes, answered as says}
 use Rattle.machine.proofs.Entries.{mark_of, entry_of, place_of, Made, Frozen, Noted, oriented_streamed, place_of_pair, length_marking}
 use Rattle.machine.proofs.Plain.{answer_of, row_of, Placed, phase_of, streamed_of, buffered_of, counts_of, plain_setting, pipe_of, state_at, state_of, Whole, WholeStreamed, WholeBuffered, Poised}
 use Rattle.machine.proofs.Block.{block, all_frozen_is, all_frozen_are, let_go_whole, flushed_is, flush_whole}
-
--- the sides of readings by either definition
-pub left_same : {A : Type 0} (kind : Kind) (a b : A) → left_of kind a b ≡ left_side kind a b
-left_same Inner a b = refl
-left_same Left a b = refl
-left_same Right a b = refl
-left_same Full a b = refl
-
-pub right_same : {A : Type 0} (kind : Kind) (a b : A) → right_of kind a b ≡ right_side kind a b
-right_same Inner a b = refl
-right_same Left a b = refl
-right_same Right a b = refl
-right_same Full a b = refl
 
 -- the pairs of the row x with rows from place j on
 abbrev pub judgeds : {X V : Type 0} → plain_machine.Setting X V → ℕ → X → ℕ → List X → List plain_entry
@@ -169,9 +155,7 @@ module _ {K V : Type 0} (c : Setting K) (fits : V → Record → Bool) (after : 
   pairs_are i at e x j (p ∷ l) h =
       ap (λ (w : plain_entry). w ∷ map (entry_of c.kind c.asks) (pairs_with c.kind at i x.reading l))
       (ap (λ (a : ℕ). judged a (buffered_place c.kind (paired c.kind i p.0)) (c.asks (left_of c.kind x.reading p.1.reading) (right_of c.kind x.reading p.1.reading))) e
-      ∙ ap (λ (b : ℕ). judged i b (c.asks (left_of c.kind x.reading p.1.reading) (right_of c.kind x.reading p.1.reading))) (place_of_pair c.kind i p.0 ∙ h.0)
-      ∙ ap (λ (b : Reading). judged i j (c.asks b (right_of c.kind x.reading p.1.reading))) (left_same c.kind x.reading p.1.reading)
-      ∙ ap (λ (b : Reading). judged i j (c.asks (left_side c.kind x.reading p.1.reading) b)) (right_same c.kind x.reading p.1.reading))
+      ∙ ap (λ (b : ℕ). judged i b (c.asks (left_of c.kind x.reading p.1.reading) (right_of c.kind x.reading p.1.reading))) (place_of_pair c.kind i p.0 ∙ h.0))
       ∙ ap (λ (w : List plain_entry). judged i j (plain.asks x p.1) ∷ w) (pairs_are i at e x (suc j) l h.1)
 
   pairs_made : (at : StreamedRow) → at.batch ≡ batch_of (at.batch + at.row) → (r : Reading) (l : List (ℕ × Row K)) → AllByRecursion (Made c.kind c.asks batch_of) (pairs_with c.kind at (at.batch + at.row) r l)

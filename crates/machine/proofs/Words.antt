@@ -24,7 +24,7 @@ use Rattle.merge.specs.Decided.{Follows}
 use Rattle.rows.specs.Sides.{streamed_side, buffered_side, is_right, streamed_of, buffered_of, left_of, right_of, is_outer, is_full, oriented}
 use Rattle.merge.specs.Joined.{Asks, passes, InTable, joined}
 use Rattle.merge.specs.Merging.{by_key}
-use Rattle.merge.proofs.Sides.{oriented_twice, distinct_oriented, perm_map}
+use Rattle.merge.proofs.Sides.{oriented_twice, distinct_oriented}
 use Rattle.merge.proofs.Joined.{named}
 use Rattle.merge.proofs.Members.{table_only}
 use Rattle.merge.proofs.Merging.{by_key_laws}
@@ -43,6 +43,12 @@ use Rattle.machine.proofs.Follows.{WholeCore}
 use Rattle.machine.proofs.Fetch.{last_is, side_streamed, side_buffered}
 use Rattle.machine.proofs.Steps.{follows_call}
 use Rattle.machine.proofs.Sound.{Close, Kept, stopped_by, fails_at, call_sound, failed_push}
+
+perm_map : {A B : Type 0} (f : A → B) {a b : List A} → Permᴰ a b → Permᴰ (map f a) (map f b)
+perm_map f Permᴰ.nil = Permᴰ.nil
+perm_map f (Permᴰ.cons e d) = Permᴰ.cons (ap f e) (perm_map f d)
+perm_map f (Permᴰ.swap e e') = Permᴰ.swap (ap f e) (ap f e')
+perm_map f (Permᴰ.trans d d') = Permᴰ.trans (perm_map f d) (perm_map f d')
 
 -- ---- small translations
 

@@ -14,3 +14,4 @@ pub mod Joined
 pub mod Sequence
 pub mod Merging
 pub mod Parts
+pub mod Loops

@@ -77,8 +77,9 @@ impl BufferedData {
                     position = Position { batch, row: at };
                     break 'scan;
                 }
+                let buffered = self.base + index as u32;
                 let partner = rows[index].reading;
-                out[count] = pair_entry(kind, row, place, reading, self.base + index as u32, partner);
+                out[count] = pair_entry(kind, row, place, reading, buffered, partner);
                 count += 1;
             }
             first += range.rows as usize;

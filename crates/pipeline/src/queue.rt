@@ -209,7 +209,13 @@ impl Queue {
     }
 
     // Notes n buffered rows, from place `first` on.
-    pub fn note_rows(&mut self, kind: Kind, first: u32, n: usize, block: &mut [Entry]) -> Result<(), Refused>
+    pub fn note_rows(
+        &mut self,
+        kind: Kind,
+        first: u32,
+        n: usize,
+        block: &mut [Entry],
+    ) -> Result<(), Refused>
         ensures { Step (can_note first n self.old block.old) (noting kind first n) self.old block.old result self.new block.new }
     {
         if !self.can_note(first, n, block) {

@@ -45,11 +45,25 @@ fn fills_the_block_to_its_last_entry(rt: HostRuntime) {
     assert_eq!(rt; queue.push(&mut block, row(1)), Ok(()));
     assert_eq!(rt; queue.note_rows(Kind::Full, 7, 3, &mut block), Ok(()));
     assert_eq!(rt; queue.push(&mut block, row(2)), Err(Refused));
-    assert_eq!(rt; queue.note_rows(Kind::Full, 10, 1, &mut block), Err(Refused));
-    assert_eq!(rt; queue.correct(Kind::Full, &mut block), Err(Refused), "a row is not frozen yet");
-    assert_eq!(rt; queue.freeze_all(&judge(&Some(Refuse), Kind::Full), &mut states, &mut block), Ok(()));
+    assert_eq!(rt;
+        queue.note_rows(Kind::Full, 10, 1, &mut block),
+        Err(Refused)
+    );
+    assert_eq!(rt;
+        queue.correct(Kind::Full, &mut block),
+        Err(Refused),
+        "a row is not frozen yet"
+    );
+    assert_eq!(rt;
+        queue.freeze_all(&judge(&Some(Refuse), Kind::Full), &mut states, &mut block),
+        Ok(())
+    );
     assert_eq!(rt; queue.correct(Kind::Full, &mut block), Ok(()));
-    assert_eq!(rt; queue.push(&mut block, row(2)), Err(Refused), "records are due");
+    assert_eq!(rt;
+        queue.push(&mut block, row(2)),
+        Err(Refused),
+        "records are due"
+    );
     let records = [
         Record::RightAlone(7),
         Record::RightAlone(8),
@@ -71,7 +85,10 @@ fn lets_only_the_rows_of_the_batch_leave(rt: HostRuntime) {
         from: 0,
         keep: 1,
     };
-    assert_eq!(rt; queue.leave(Kind::Full, true, batch, &states, &mut block), Ok(()));
+    assert_eq!(rt;
+        queue.leave(Kind::Full, true, batch, &states, &mut block),
+        Ok(())
+    );
     assert_eq!(rt; queue.release(&mut block), Ok(()));
     check_due(
         &rt,
@@ -79,7 +96,10 @@ fn lets_only_the_rows_of_the_batch_leave(rt: HostRuntime) {
         &block,
         &[Record::RightAlone(7), Record::RightAlone(8)],
     );
-    assert_eq!(rt; queue.freeze_all(&judge(&None, Kind::Full), &mut states, &mut block), Ok(()));
+    assert_eq!(rt;
+        queue.freeze_all(&judge(&None, Kind::Full), &mut states, &mut block),
+        Ok(())
+    );
     assert_eq!(rt; queue.release(&mut block), Ok(()));
     check_due(&rt, &mut queue, &block, &[Record::RightAlone(9)]);
 }
@@ -88,8 +108,14 @@ fn lets_only_the_rows_of_the_batch_leave(rt: HostRuntime) {
 fn notes_up_to_the_last_place(rt: HostRuntime) {
     let mut block = [row(0); 3];
     let mut queue = Queue::new();
-    assert_eq!(rt; queue.note_rows(Kind::Full, u32::MAX, 2, &mut block), Err(Refused));
-    assert_eq!(rt; queue.note_rows(Kind::Full, u32::MAX, 1, &mut block), Ok(()));
+    assert_eq!(rt;
+        queue.note_rows(Kind::Full, u32::MAX, 2, &mut block),
+        Err(Refused)
+    );
+    assert_eq!(rt;
+        queue.note_rows(Kind::Full, u32::MAX, 1, &mut block),
+        Ok(())
+    );
 }
 
 #[test]
@@ -99,15 +125,24 @@ fn hands_over_a_failed_row_alone_once(rt: HostRuntime) {
     let mut queue = Queue::new();
     let at = StreamedRow { batch: 0, row: 0 };
     let reading = Reading::new(0, 0, 0);
-    assert_eq!(rt; queue.push(
+    assert_eq!(rt;
+        queue.push(
             &mut block,
             Entry::pair(at, Record::Pair(0, 0), reading, reading),
-        ), Ok(()));
-    assert_eq!(rt; queue.push(
+        ),
+        Ok(())
+    );
+    assert_eq!(rt;
+        queue.push(
             &mut block,
             Entry::pair(at, Record::Pair(0, 1), reading, reading),
-        ), Ok(()));
-    assert_eq!(rt; queue.freeze(&judge(&Some(Refuse), Kind::Left), &mut states, &mut block), Ok(()));
+        ),
+        Ok(())
+    );
+    assert_eq!(rt;
+        queue.freeze(&judge(&Some(Refuse), Kind::Left), &mut states, &mut block),
+        Ok(())
+    );
     assert_eq!(rt; queue.correct(Kind::Left, &mut block), Ok(()));
     check_due(&rt, &mut queue, &block, &[Record::LeftAlone(0)]);
 }

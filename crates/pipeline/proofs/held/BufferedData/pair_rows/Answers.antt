@@ -25,11 +25,10 @@ loop-at-preserved g c =
     let P = pairs {K = g.row.K.Denot} c.args.kind c.args.row c.args.place c.args.reading in
     let known : i < min (length rows) s.held = omega (arith, c.min-known.ensures, c.if-index-known.false) in
     let room : c.loop-at.count < length c.loop-at.out = omega (arith, c.if-count-out.false, c.loop-at.invariant.0.within) in
-    let row = scan_row s rows b c.scan.first c.scan.invariant.0 _ c.scan-test.true r c.index-rows-index.result c.loop-at-test.true known in
-    (
+    let row = scan_row s rows b c.scan.first c.scan.invariant.0 _ c.scan-test.true r c.index-rows-index.result c.loop-at-test.true known in (
       and_on P c.loop-at.invariant.0
-    (took P c.loop-at.out c.loop-at.count (s.base + i, get_or rows i c.index-rows-index.result) c.pair_entry.result (run_at (holding s) b r rows) (run_at (holding s) b (r + 1) rows) room row
-    (ap (λ (e : Entry). e ∷ P (run_at (holding s) b (r + 1) rows)) (sym c.pair_entry.ensures))),
+          (took P c.loop-at.out c.loop-at.count (s.base + i, get_or rows i c.index-rows-index.result) c.pair_entry.result (run_at (holding s) b r rows) (run_at (holding s) b (r + 1) rows) room row
+          (ap (λ (e : Entry). e ∷ P (run_at (holding s) b (r + 1) rows)) (sym c.pair_entry.ensures))),
       c.loop-at.invariant.1,
     )
 
