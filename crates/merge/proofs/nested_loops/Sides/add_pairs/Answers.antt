@@ -1,14 +1,3 @@
-<<<<<<< HEAD
-use Rattle.std.proofs.Common.{arith}
-use Rattle.std.proofs.lemmas.Grind.{common_steps}
-use Rattle.merge.proofs.nested_loops.Sides.add_pairs.Goals as goal
-
-pub loop-j-preserved : goal.loop-j-preserved
-loop-j-preserved g c = grind (arith, common_steps) steps 12000000
-
-pub loop-i-preserved : goal.loop-i-preserved
-loop-i-preserved g c = grind (arith, common_steps) steps 12000000
-=======
 use Rattle.std.proofs.Common.{[], ◌∷◌, ◌++◌, List, map, append-nil, arith, vec_items, refl, ap, sym, ◌∙◌}
 use Rattle.std.proofs.lemmas.List.{drop_all}
 use Rattle.rows.specs.declared.row.Row.{Row}
@@ -32,4 +21,3 @@ loop-j-preserved g c =
 pub loop-i-preserved : goal.loop-i-preserved
 loop-i-preserved g c = added_more (oriented c.args.self.now.kind) (λ i s. all_pairs (passing_sides c.args.self.now) i s 0 c.oriented.result.1.now) (λ i x. pairs_of (passing_sides c.args.self.now) i x 0 c.oriented.result.1.now) (λ _ _ _. refl) c.oriented.result.0.now c.loop-i.i (vec_items c.loop-i.table) _ c.loop-i.invariant c.index-streamed-i.result c.loop-i-test.true c.index-streamed-i.is _
     (sym (append-nil (vec_items c.loop-j.table)) ∙ ap (λ (l : List (Row _)). vec_items c.loop-j.table ++ map (oriented c.args.self.now.kind) (pairs_of (passing_sides c.args.self.now) c.loop-i.i c.index-streamed-i.result c.loop-j.j l)) (sym (drop_all c.loop-j.j c.oriented.result.1.now c.loop-j-test.false)) ∙ c.loop-j.invariant)
->>>>>>> c5c44b3dbe4fb89fa1f429d93f7ca0ba4a71a16d
