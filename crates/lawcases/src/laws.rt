@@ -60,7 +60,10 @@ fn passes_on<O: KeyOrder>(order: &O, a: &O::Key, b: &O::Key, c: &O::Key) -> bool
         || !order.compare_within(a, c).is_gt()
 }
 
-// Less, Equal and Greater rise in this sequence; of streamed keys a and c and a buffered key b
+// Two laws, though they look alike: one is of two streamed keys, one of two buffered keys. Less, Equal and Greater rise in
+// this sequence.
+
+// of streamed keys a and c and a buffered key b
 fn rises_streamed<O: KeyOrder>(order: &O, a: &O::Key, c: &O::Key, b: &O::Key) -> bool {
     order.compare_within(a, c).is_gt() || order.compare_across(a, b) <= order.compare_across(c, b)
 }
