@@ -1,54 +1,47 @@
 -- How a turn compares the streamed row with the run, read off the tables.
-use Rattle.std.proofs.Common.{◌≡◌, ℕ, zero, suc, ◌+◌, ◌<◌, ◌≤◌, Bool, true, false, cond, ltb, List, [], ◌∷◌, length, get_or, take, drop, Some, None, Option, Ordering, Less, Greater, sym, refl, ap, ◌∙◌, arith, length-drop}
-use Rattle.std.proofs.lemmas.List.{length-take-le}
+use Rattle.std.proofs.Common.{◌≡◌, ℕ, ◌+◌, ◌<◌, ◌≤◌, Bool, true, false, cond, ltb, ◌⊎◌, List, length, get_or, take, Some, None, Option, Ordering, Less, Greater, sym, refl, ap, ◌∙◌, inl, inr, arith, length-take}
+use Rattle.std.proofs.lemmas.List.{length-take-le, get_or-take}
+use Rattle.std.proofs.lemmas.Option.{slice_get_cases, slice_get_past, slice_get_read, none-some}
 use Rattle.std.proofs.lemmas.Bool.{le-leb, lt-leb, lt-ltb, le-ltb, cond-true, cond-false}
 use Rattle.rows.specs.declared.row.Row.{Row}
-use Rattle.pipeline.specs.Block.{Queued, queued}
+use Rattle.pipeline.specs.Block.{queued}
 use Rattle.pipeline.specs.Held.{holding}
+use Rattle.pipeline.proofs.Queues.{counts}
 use Rattle.join.specs.declared.phase.Phase.{Phase as PhaseOf}
 use Rattle.join.specs.declared.phase.Phase.TheVariants.{Turning}
-use Rattle.machine.specs.Machine.{Setting, Outcome, going, core, turning as turning_phase, marked_by, flush, deferred, compared, step, step_of, row_at, run_head, comparison, has_batch}
+use Rattle.machine.specs.Machine.{Setting, Phase, Outcome, going, core, turning as turning_phase, marked_by, flush, deferred, step, step_of, row_at, run_head, comparison, has_batch}
 use Rattle.join.specs.declared.state.Join.{Join}
-use Rattle.join.specs.Shows.{Memory, FitsMemory, core_of, phase_of, streamed_of, buffered_of, counts_of, compared_as}
-
-some_not_none : {A : Type 0} {a : A} → ◌≡◌ {A = Option A} (Some a) None → ⊥
-some_not_none h = let z : ◌≡◌ {A = ℕ} 0 1 = cc in omega arith
+use Rattle.join.specs.Shows.{Memory, FitsMemory, core_of, phase_of, streamed_of, buffered_of, counts_of, compared_as, flushed, turned}
 
 -- a row of the first k
-pub row_taken : {A : Type 0} (n k : ℕ) (l : List A) (x : A) → n < k → n < length l → x ≡ get_or l n x → row_at n (take k l) ≡ Some x
-row_taken n zero l x within long is = absurd (omega arith)
-row_taken n (suc k) [] x within long is = absurd (omega arith)
-row_taken zero (suc k) (y ∷ l) x within long is = ap (λ z. Some z) (sym is)
-row_taken (suc n) (suc k) (y ∷ l) x within long is = row_taken n k l x (omega arith) (omega arith) is
+pub row_taken : {A : Type 0} (n k : ℕ) (l : List A) (x : A) → n < k → k ≤ length l → x ≡ get_or l n x → row_at n (take k l) ≡ Some x
+row_taken n k l x within long is = slice_get_read (take k l) k n x (sym (length-take-le k l long)) within (is ∙ sym (get_or-take k l n x within))
 
 pub row_past : {A : Type 0} (n k : ℕ) (l : List A) → k ≤ n → row_at n (take k l) ≡ None
-row_past n zero l past = refl
-row_past n (suc k) [] past = refl
-row_past zero (suc k) (y ∷ l) past = absurd (omega arith)
-row_past (suc n) (suc k) (y ∷ l) past = row_past n k l (omega arith)
+row_past n k l past = slice_get_past (take k l) n (omega (arith, length-take k l))
 
-row_some : {A : Type 0} (n k : ℕ) (l : List A) → n < k → n < length l → (x : A) × (row_at n (take k l) ≡ Some x)
-row_some n zero l within long = absurd (omega arith)
-row_some n (suc k) [] within long = absurd (omega arith)
-row_some zero (suc k) (y ∷ l) within long = (y, refl)
-row_some (suc n) (suc k) (y ∷ l) within long = row_some n k l (omega arith) (omega arith)
+row_some : {A : Type 0} (n k : ℕ) (l : List A) → n < k → k ≤ length l → (x : A) × (row_at n (take k l) ≡ Some x)
+row_some {A} n k l within long = go (slice_get_cases (take k l) n).1
+  where
+    go : ((x : A) × (n < length (take k l)) × (row_at n (take k l) ≡ Some x) × (get_or (take k l) n x ≡ x)) ⊎ ((length (take k l) ≤ n) × (row_at n (take k l) ≡ None)) → (x : A) × (row_at n (take k l) ≡ Some x)
+    go (inl h) = (h.0, h.2)
+    go (inr h) = absurd (omega (arith, length-take-le k l long, h.0))
 
-module _ {K : Type 0} (c : Setting K) (j : Join K) (m : Memory K) (fits : FitsMemory j.limits m) (size : c.size ≡ j.limits.batch) where
-  waiting : length (queued j.queue m.block).frozen + length (queued j.queue m.block).unfrozen ≡ j.queue.frozen + j.queue.unfrozen
-  waiting =
-      let f : length (take j.queue.frozen m.block) ≡ j.queue.frozen = length-take-le j.queue.frozen m.block (omega arith) in
-      let u : length (take j.queue.unfrozen (drop j.queue.frozen m.block)) ≡ j.queue.unfrozen =
-      length-take-le j.queue.unfrozen (drop j.queue.frozen m.block) (omega (arith, length-drop j.queue.frozen m.block)) in
-      omega arith
+module _ {K : Type 0} (c : Setting K) (j : Join K) (m : Memory K) (size : c.size ≡ j.limits.batch) where
+  waiting : length m.block ≡ j.limits.block → length (queued j.queue m.block).frozen + length (queued j.queue m.block).unfrozen ≡ j.queue.frozen + j.queue.unfrozen
+  waiting long =
+      let n = counts j.queue m.block (record { held = omega (arith, j.room, j.limits.room, long); front = omega (arith, j.front, long) }) in
+      omega (arith, n.1, n.2)
 
   -- a batch waits in the block: it is emptied first
-  pub compares_nothing : j.limits.batch ≤ j.queue.frozen + j.queue.unfrozen → compared_as c j m ≡ None
-  compares_nothing full = cond-true (has_batch c (queued j.queue m.block)) _ _ (le-leb _ _ (omega (arith, waiting)))
+  pub compares_nothing : length m.block ≡ j.limits.block → j.limits.batch ≤ j.queue.frozen + j.queue.unfrozen → compared_as c j m ≡ None
+  compares_nothing long full = cond-true (has_batch c (queued j.queue m.block)) _ _ (le-leb _ _ (omega (arith, waiting long)))
 
+module _ {K : Type 0} (c : Setting K) (j : Join K) (m : Memory K) (fits : FitsMemory j.limits m) (size : c.size ≡ j.limits.batch) where
   compares : j.queue.frozen + j.queue.unfrozen < j.limits.batch → (x y : Option (Row K)) → row_at j.streamed.at (take j.streamed.rows m.streamed) ≡ x → run_head c (buffered_of j m) ≡ y
       → compared_as c j m ≡ Some (comparison c x y)
   compares below x y is_x is_y =
-      cond-false (has_batch c (queued j.queue m.block)) _ _ (lt-leb _ _ (omega (arith, waiting)))
+      cond-false (has_batch c (queued j.queue m.block)) _ _ (lt-leb _ _ (omega (arith, waiting c j m size fits.block_length)))
       ∙ ap (λ (z : Option (Row K)). Some (comparison c z (run_head c (buffered_of j m)))) is_x
       ∙ ap (λ (z : Option (Row K)). Some (comparison c x z)) is_y
 
@@ -71,32 +64,31 @@ module _ {K : Type 0} (c : Setting K) (j : Join K) (m : Memory K) (fits : FitsMe
 
 -- What the turn comes to, by the comparison.
 module _ {K : Type 0} (c : Setting K) (j : Join K) (m : Memory K) (turning : j.phase ≡ Turning) where
-  abbrev q : Queued
-  q = queued j.queue m.block
-
   abbrev o : Ordering
   o = comparison c (row_at j.streamed.at (take j.streamed.rows m.streamed)) (run_head c (buffered_of j m))
 
-  abbrev flushed : Outcome K
-  flushed = going (core (streamed_of j m) (marked_by c.kind c.asks q (buffered_of j m)) (flush (deferred c) c.kind c.asks q) (counts_of j.counts) turning_phase)
+  abbrev flushed_in : Phase K → Outcome K
+  flushed_in ph =
+      let q = queued j.queue m.block in
+      going (core (streamed_of j m) (marked_by c.kind c.asks q (buffered_of j m)) (flush (deferred c) c.kind c.asks q) (counts_of j.counts) ph)
 
-  abbrev by : Ordering → Outcome K
-  by w = compared c w (streamed_of j m) (buffered_of j m) q (counts_of j.counts)
+  abbrev phase_by : PhaseOf → Phase K
+  phase_by ph = phase_of ph (holding j.buffered) (take j.buffered.held m.buffered)
 
-  turns : step_of c (core_of j m) ≡ cond (has_batch c q) flushed (by o)
-  turns = ap (λ (ph : PhaseOf). step c (phase_of ph (holding j.buffered) (take j.buffered.held m.buffered)) (streamed_of j m) (buffered_of j m) q (counts_of j.counts)) turning
+  turns : step_of c (core_of j m) ≡ cond (has_batch c (queued j.queue m.block)) (flushed_in turning_phase) (turned c o j m)
+  turns = ap (λ (ph : PhaseOf). step c (phase_by ph) (streamed_of j m) (buffered_of j m) (queued j.queue m.block) (counts_of j.counts)) turning
 
   -- a batch waits in the block: all is handed over
-  pub turn_flushes : compared_as c j m ≡ None → step_of c (core_of j m) ≡ flushed
-  turn_flushes none = turns ∙ go (has_batch c q) none
+  pub turn_flushes : compared_as c j m ≡ None → step_of c (core_of j m) ≡ going (flushed c j m)
+  turn_flushes none = turns ∙ go (has_batch c (queued j.queue m.block)) none ∙ ap (λ (ph : PhaseOf). flushed_in (phase_by ph)) (sym turning)
     where
-      go : (b : Bool) → ◌≡◌ {A = Option Ordering} (cond b None (Some o)) None → cond b flushed (by o) ≡ flushed
+      go : (b : Bool) → ◌≡◌ {A = Option Ordering} (cond b None (Some o)) None → cond b (flushed_in turning_phase) (turned c o j m) ≡ flushed_in turning_phase
       go true h = refl
-      go false h = absurd (some_not_none h)
+      go false h = absurd (none-some o (sym h))
 
-  pub turn_compares : (w : Ordering) → compared_as c j m ≡ Some w → step_of c (core_of j m) ≡ by w
-  turn_compares w some = turns ∙ go (has_batch c q) some
+  pub turn_compares : (w : Ordering) → compared_as c j m ≡ Some w → step_of c (core_of j m) ≡ turned c w j m
+  turn_compares w some = turns ∙ go (has_batch c (queued j.queue m.block)) some
     where
-      go : (b : Bool) → ◌≡◌ {A = Option Ordering} (cond b None (Some o)) (Some w) → cond b flushed (by o) ≡ by w
-      go true h = absurd (some_not_none (sym h))
-      go false h = let z : o ≡ w = cc in ap by z
+      go : (b : Bool) → ◌≡◌ {A = Option Ordering} (cond b None (Some o)) (Some w) → cond b (flushed_in turning_phase) (turned c o j m) ≡ turned c w j m
+      go true h = absurd (none-some w h)
+      go false h = let z : o ≡ w = cc in ap (λ (w : Ordering). turned c w j m) z

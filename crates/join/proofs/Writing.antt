@@ -1,11 +1,9 @@
 -- The machine's step on a streamed row and what is left to pair with it, by what stands written in the block.
-use Rattle.std.proofs.Common.{◌≡◌, ℕ, ◌+◌, ◌-◌, ◌<◌, ◌≤◌, min, leb, List, ◌++◌, length, get_or, take, drop, Some, Option, sym, ap, ◌∙◌, arith}
+use Rattle.std.proofs.Common.{◌≡◌, ℕ, ◌+◌, ◌-◌, ◌<◌, ◌≤◌, min, List, ◌++◌, length, get_or, take, drop, Some, Option, sym, ap, ◌∙◌, arith}
 use borrow.Rule.Slice.PartMut.{put_mid}
 use Rattle.std.proofs.lemmas.List.{length-take-le, length-drop, length-append}
-use Rattle.std.proofs.lemmas.Bool.{le-leb, lt-leb, cond-true, cond-false}
 use Rattle.rows.specs.declared.kind.Kind.{Kind}
 use Rattle.rows.specs.declared.row.Row.{Row}
-use Rattle.sources.specs.Meaning.{Closing}
 use Rattle.pipeline.specs.declared.entry.Entry.{Entry}
 use Rattle.pipeline.specs.declared.held.BufferedData.{BufferedData}
 use Rattle.pipeline.specs.Block.{Queued, queued, pushed, freeze_all}
@@ -15,16 +13,20 @@ use Rattle.pipeline.specs.declared.states.FilterState.{FilterState}
 use Rattle.pipeline.specs.Freezing.{judged_all}
 use Rattle.pipeline.specs.States.{states_of, marking}
 use Rattle.pipeline.proofs.Queues.{room_from, gap_write, put_length, add_step}
-use Rattle.machine.specs.Machine.{Setting, Phase, Streamed, Buffered, Counts, Outcome, marked_by, let_go, deferred, going, core, pairing, passing, freeze_full, with_holding, pair_row, step, step_of, row_at}
+use Rattle.machine.specs.Machine.{Setting, Phase, Streamed, Buffered, Counts, Outcome, let_go, deferred, going, core, pairing, passing, freeze_full, with_holding, pair_row, step, step_of, row_at}
 use Rattle.join.specs.declared.phase.Phase.{Phase as PhaseOf}
 use Rattle.join.specs.declared.phase.Phase.TheVariants.{Pairing}
 use Rattle.join.specs.declared.phase.Pairs.{Pairs}
 use Rattle.join.specs.declared.state.Join.{Join}
 use Rattle.join.specs.Phases.{pending}
-use Rattle.join.specs.Shows.{Memory, memory, FitsMemory, core_of, streamed_of, buffered_of, counts_of, phase_of}
+use Rattle.join.specs.Shows.{Memory, with_tables, FitsTables, FitsMemory, Ready, core_of, streamed_of, buffered_of, counts_of, phase_of}
 use Rattle.join.specs.Pairing.{adding}
 use Rattle.join.proofs.Comparing.{row_taken, row_past}
+use Rattle.join.proofs.Turning.{freeze_waits, freeze_fills}
 use Rattle.join.proofs.Pairs.{taken_now, left_over, none_left, some_left, run_held, pairs_length, pairs_end, pairs_go_on, written_there}
+
+pub fits_memory : {K : Type 0} {j : Join K} {streamed buffered : List (Row K)} {block : List Entry} → Ready j block → FitsTables j.limits streamed buffered → (m : Memory K) → FitsMemory j.limits (with_tables streamed buffered block m)
+fits_memory ready tables m = record { streamed_length = tables.streamed_length; buffered_length = tables.buffered_length; block_length = ready.block_length }
 
 -- the buffered side of a join whose held batches are otherwise known
 abbrev known : {K : Type 0} → Join K → Memory K → Holding → Buffered K
@@ -142,10 +144,8 @@ module _ {K : Type 0} (j : Join K) (pairs : Pairs) (streamed buffered : List (Ro
 
   pub record Scanned : Type 0 where
     pub phase : j.phase ≡ Pairing pairs
-    pub none_due : j.queue.due ≡ 0
-    pub streamed_length : length streamed ≡ j.limits.streamed
-    pub buffered_length : length buffered ≡ j.limits.buffered
-    pub block_length : length block ≡ j.limits.block
+    pub ready : Ready j block
+    pub tables : FitsTables j.limits streamed buffered
     pub within : j.streamed.at < j.streamed.rows
     pub is_row : d ≡ get_or streamed j.streamed.at d
     pub is_most : most ≡ min pairs.left (j.limits.batch - j.queue.unfrozen)
@@ -157,7 +157,7 @@ module _ {K : Type 0} (j : Join K) (pairs : Pairs) (streamed buffered : List (Ro
     left_is = ap pending w.phase
 
     is_old : length old ≡ width
-    is_old = length-take-le width (drop behind block) (omega (arith, length-drop behind block, left_is, w.is_most, w.block_length))
+    is_old = length-take-le width (drop behind block) (omega (arith, length-drop behind block, left_is, w.is_most, w.ready.block_length))
 
     is_now : k ≡ min (length run) (min pairs.left (j.limits.batch - j.queue.unfrozen))
     is_now = omega (arith, w.count, is_old, w.is_most)
@@ -166,7 +166,7 @@ module _ {K : Type 0} (j : Join K) (pairs : Pairs) (streamed buffered : List (Ro
     is_es = pairs_length j.limits.kind (record { batch = j.streamed.first; row = j.streamed.at }) (j.streamed.first + j.streamed.at) row.reading (take k run) ∙ length-take-le k run (omega (arith, w.count))
 
     fits_part : behind + width + j.queue.noted ≤ length block
-    fits_part = omega (arith, left_is, w.is_most, w.block_length)
+    fits_part = omega (arith, left_is, w.is_most, w.ready.block_length)
 
     row_is : row ≡ get_or streamed j.streamed.at row
     row_is = ap (λ (x : Row K). get_or streamed j.streamed.at x) w.is_row
@@ -178,10 +178,10 @@ module _ {K : Type 0} (j : Join K) (pairs : Pairs) (streamed buffered : List (Ro
     few_written = omega (arith, w.count, is_old)
 
     shown : queued j.queue block' ≡ queued j.queue block
-    shown = put_shown j block es old ys width k w.none_due is_old is_es few_written w.written fits_part
+    shown = put_shown j block es old ys width k w.ready.none_due is_old is_es few_written w.written fits_part
 
     pub scan_long : length block' ≡ length block
-    scan_long = put_long j block es old ys width k w.none_due is_old is_es few_written w.written fits_part
+    scan_long = put_long j block es old ys width k w.ready.none_due is_old is_es few_written w.written fits_part
 
     pub scan_left : k + (pairs.left - k) ≤ pending j.phase
     scan_left = omega (arith, left_is, is_now)
@@ -189,12 +189,12 @@ module _ {K : Type 0} (j : Join K) (pairs : Pairs) (streamed buffered : List (Ro
     pub scan_room : j.queue.unfrozen + k ≤ j.limits.batch
     scan_room = omega (arith, is_now)
 
-    module _ (c : Setting K) (is_kind : c.kind ≡ j.limits.kind) (is_size : c.size ≡ j.limits.batch) (sl : List (List (Row K))) (sc : Closing) (bl : List (List (Row K))) (bc : Closing) where
+    module _ (c : Setting K) (is_kind : c.kind ≡ j.limits.kind) (is_size : c.size ≡ j.limits.batch) (given : Memory K) where
       abbrev m : Memory K
-      m = memory sl sc bl bc streamed buffered block
+      m = with_tables streamed buffered block given
 
       fitting : FitsMemory j.limits m
-      fitting = record { streamed_length = w.streamed_length; buffered_length = w.buffered_length; block_length = w.block_length }
+      fitting = fits_memory w.ready w.tables given
 
       pub scan_ends : k ≡ 0 → (held : BufferedData) → holding held ≡ matching (holding j.buffered)
           → step_of c (core_of j m) ≡ going (core (streamed_of j m) (known j m (holding held)) (queued j.queue block') (counts_of j.counts) passing)
@@ -204,52 +204,29 @@ module _ {K : Type 0} (j : Join K) (pairs : Pairs) (streamed buffered : List (Ro
           → step_of c (core_of j m) ≡ freeze_full c (pairing (take (pairs.left - k) (run_at (holding j.buffered) b r (take j.buffered.held buffered)))) (streamed_of j m) (buffered_of j m) (pushed (take k (drop behind block')) (queued j.queue block')) (counts_of j.counts)
       scan_goes_on some b r left =
           goes_on_shown c j m fitting pairs w.phase is_kind is_size w.within row row_is k is_now block' shown some b r left
-          (put_there j block es old ys width k w.none_due is_old is_es few_written w.written fits_part)
+          (put_there j block es old ys width k w.ready.none_due is_old is_es few_written w.written fits_part)
 
 -- n entries behind the unfrozen join them, and all is frozen when these reach the batch size.
 module _ {K : Type 0} (c : Setting K) (j : Join K) (m : Memory K) (is_size : c.size ≡ j.limits.batch) (n : ℕ) (none_due : j.queue.due ≡ 0) (room : j.queue.frozen + j.queue.unfrozen + j.queue.noted + n ≤ length m.block) where
-  abbrev more : Queued
-  more = pushed (take n (drop (j.queue.frozen + j.queue.unfrozen) m.block)) (queued j.queue m.block)
-
-  abbrev next : Phase K
-  next = phase_of j.phase (holding j.buffered) (take j.buffered.held m.buffered)
-
-  more_long : length more.unfrozen ≡ j.queue.unfrozen + n
-  more_long =
-      let front = j.queue.frozen + j.queue.unfrozen in
-      let u : length (take j.queue.unfrozen (drop j.queue.frozen m.block)) ≡ j.queue.unfrozen =
-      length-take-le j.queue.unfrozen (drop j.queue.frozen m.block) (omega (arith, length-drop j.queue.frozen m.block)) in
-      let v : length (take n (drop front m.block)) ≡ n = length-take-le n (drop front m.block) (omega (arith, length-drop front m.block)) in
-      length-append (take j.queue.unfrozen (drop j.queue.frozen m.block)) (take n (drop front m.block)) ∙ omega (arith, u, v)
-
-  pub adds_few : j.queue.unfrozen + n < j.limits.batch → adding c n j m ≡ going (core (streamed_of j m) (buffered_of j m) more (counts_of j.counts) next)
-  adds_few few = cond-false (leb c.size (length more.unfrozen)) _ _ (lt-leb _ _ (omega (arith, more_long)))
-
-  pub adds_full : j.limits.batch ≤ j.queue.unfrozen + n
-      → adding c n j m ≡ going (core (streamed_of j m) (marked_by c.kind c.asks more (buffered_of j m)) (let_go (deferred c) (freeze_all c.asks more)) (counts_of j.counts) next)
-  adds_full full = cond-true (leb c.size (length more.unfrozen)) _ _ (le-leb _ _ (omega (arith, more_long)))
-
   -- the queue with the entries counted
   abbrev counted : Queue
   counted = record { next = j.queue.next; due = j.queue.due; frozen = j.queue.frozen; unfrozen = j.queue.unfrozen + n; noted = j.queue.noted }
 
-  counted_is : queued counted m.block ≡ more
-  counted_is =
+  abbrev next : Phase K
+  next = phase_of j.phase (holding j.buffered) (take j.buffered.held m.buffered)
+
+  counted_long : length (queued counted m.block).unfrozen ≡ j.queue.unfrozen + n
+  counted_long = length-take-le (j.queue.unfrozen + n) (drop j.queue.frozen m.block) (omega (arith, length-drop j.queue.frozen m.block))
+
+  adds : adding c n j m ≡ freeze_full c next (streamed_of j m) (buffered_of j m) (queued counted m.block) (counts_of j.counts)
+  adds =
       let possible = room_from n j.queue m.block none_due room in
-      (add_step j.queue m.block n possible).made possible
+      ap (λ (z : Queued). freeze_full c next (streamed_of j m) (buffered_of j m) z (counts_of j.counts)) (sym ((add_step j.queue m.block n possible).made possible))
 
   pub adds_shown : j.queue.unfrozen + n < j.limits.batch → adding c n j m ≡ going (core (streamed_of j m) (buffered_of j m) (queued counted m.block) (counts_of j.counts) next)
-  adds_shown few = adds_few few ∙ ap (λ (z : Queued). going (core (streamed_of j m) (buffered_of j m) z (counts_of j.counts) next)) (sym counted_is)
+  adds_shown few = adds ∙ freeze_waits c next (streamed_of j m) (buffered_of j m) (queued counted m.block) (counts_of j.counts) (omega (arith, counted_long))
 
-  abbrev marked : List FilterState → Buffered K
-  marked l = record { batches = m.buffered_batches; closing = m.buffered_closing; holding = holding j.buffered; rows = take j.buffered.held m.buffered; states = l; ended = j.buffered_ended; last = j.buffered_last }
-
-  pub freezes_shown : j.limits.batch ≤ j.queue.unfrozen + n → (q : Queue) (block : List Entry) (l : List FilterState)
-      → queued q block ≡ let_go (deferred c) (freeze_all c.asks (queued counted m.block))
-      → l ≡ marking c.kind j.buffered.base (judged_all c.asks (queued counted m.block).unfrozen) (states_of j.states)
-      → adding c n j m ≡ going (core (streamed_of j m) (marked l) (queued q block) (counts_of j.counts) next)
-  freezes_shown full q block l is_queued is_states =
-      adds_full full
-      ∙ ap (λ (z : Queued). going (core (streamed_of j m) (marked_by c.kind c.asks z (buffered_of j m)) (let_go (deferred c) (freeze_all c.asks z)) (counts_of j.counts) next)) (sym counted_is)
-      ∙ ap (λ (z : List FilterState). going (core (streamed_of j m) (marked z) (let_go (deferred c) (freeze_all c.asks (queued counted m.block))) (counts_of j.counts) next)) (sym is_states)
-      ∙ ap (λ (z : Queued). going (core (streamed_of j m) (marked l) z (counts_of j.counts) next)) (sym is_queued)
+  pub freezes_shown : j.limits.batch ≤ j.queue.unfrozen + n → (states : List FilterState) (q' : Queued)
+      → states ≡ marking c.kind j.buffered.base (judged_all c.asks (queued counted m.block).unfrozen) (states_of j.states) → q' ≡ let_go (deferred c) (freeze_all c.asks (queued counted m.block))
+      → adding c n j m ≡ going (core (streamed_of j m) (record { batches = m.buffered_batches; closing = m.buffered_closing; holding = holding j.buffered; rows = take j.buffered.held m.buffered; states = states; ended = j.buffered_ended; last = j.buffered_last }) q' (counts_of j.counts) next)
+  freezes_shown full states q' marks holds = adds ∙ freeze_fills c next (streamed_of j m) (buffered_of j m) (queued counted m.block) (counts_of j.counts) (omega (arith, counted_long)) states q' marks holds

@@ -3,5 +3,6 @@ pub mod Loads
 pub mod Opening
 pub mod Pairing
 pub mod Phases
+pub mod Settled
 pub mod Shows
 pub mod Taken

@@ -1,14 +1,13 @@
 -- What the writing of a streamed row's pairs comes to, before they are counted to the unfrozen.
 use Rattle.std.specs.Prelude.{◌≡◌, ℕ, ◌+◌, ◌≤◌, List, length, take, drop}
 use Rattle.rows.specs.declared.row.Row.{Row}
-use Rattle.sources.specs.Meaning.{Closing}
 use Rattle.pipeline.specs.declared.entry.Entry.{Entry}
 use Rattle.pipeline.specs.Block.{queued, pushed}
 use Rattle.pipeline.specs.Held.{holding}
 use Rattle.machine.specs.Machine.{Setting, going, freeze_full, step_of, Outcome}
 use Rattle.join.specs.declared.state.Join.{Join}
 use Rattle.join.specs.Phases.{pending}
-use Rattle.join.specs.Shows.{Memory, memory, core_of, streamed_of, buffered_of, counts_of, phase_of}
+use Rattle.join.specs.Shows.{Memory, with_tables, core_of, streamed_of, buffered_of, counts_of, phase_of}
 
 -- The machine's step, where n entries stand written behind the unfrozen: they join the unfrozen, and all is frozen when these
 -- reach the batch size.
@@ -24,7 +23,7 @@ pub record Written {K : Type 0} (j j' : Join K) (streamed buffered : List (Row K
   pub long : length block' ≡ length block
   pub few : n + pending j'.phase ≤ pending j.phase
   pub room : j.queue.unfrozen + n ≤ j.limits.batch
-  pub none : n ≡ 0 → (c : Setting K) → c.kind ≡ j.limits.kind → c.size ≡ j.limits.batch → (sl : List (List (Row K))) (sc : Closing) (bl : List (List (Row K))) (bc : Closing)
-      → step_of c (core_of j (memory sl sc bl bc streamed buffered block)) ≡ going (core_of j' (memory sl sc bl bc streamed buffered block'))
-  pub some : 1 ≤ n → (c : Setting K) → c.kind ≡ j.limits.kind → c.size ≡ j.limits.batch → (sl : List (List (Row K))) (sc : Closing) (bl : List (List (Row K))) (bc : Closing)
-      → step_of c (core_of j (memory sl sc bl bc streamed buffered block)) ≡ adding c n j' (memory sl sc bl bc streamed buffered block')
+  pub none : n ≡ 0 → (c : Setting K) → c.kind ≡ j.limits.kind → c.size ≡ j.limits.batch → (m : Memory K)
+      → step_of c (core_of j (with_tables streamed buffered block m)) ≡ going (core_of j' (with_tables streamed buffered block' m))
+  pub some : 1 ≤ n → (c : Setting K) → c.kind ≡ j.limits.kind → c.size ≡ j.limits.batch → (m : Memory K)
+      → step_of c (core_of j (with_tables streamed buffered block m)) ≡ adding c n j' (with_tables streamed buffered block' m)

@@ -1,7 +1,7 @@
-ghost use Rattle.std.specs.Prelude.{◌≡◌, length, None as Nothing, ◌≢◌};
+ghost use Rattle.std.specs.Prelude.{◌≡◌, None as Nothing, ◌≢◌};
 ghost use Rattle.join.specs.declared.phase.Phase.TheVariants.{Turning};
 ghost use Rattle.machine.specs.Machine.{Setting};
-ghost use Rattle.join.specs.Shows.{Memory, FitsMemory, compared_as};
+ghost use Rattle.join.specs.Shows.{Memory, FitsTables, FitsMemory, compared_as};
 
 use crate::phase::Phase;
 use crate::state::Join;
@@ -18,7 +18,7 @@ impl<K: Copy> Join<K> {
         streamed: &[Row<K>],
         buffered: &[Row<K>],
     ) -> Option<Ordering>
-        requires { (length streamed.now ≡ self.now.limits.streamed) × (length buffered.now ≡ self.now.limits.buffered) }
+        requires { FitsTables self.now.limits streamed.now buffered.now }
         ensures turning { self.now.phase ≡ Turning → (c : Setting K) (m : Memory K) → FitsMemory self.now.limits m → c.size ≡ self.now.limits.batch → c.across ≡ O.KeyOrder.across order.now → m.streamed ≡ streamed.now → m.buffered ≡ buffered.now → result ≡ compared_as c self.now m }
         ensures otherwise { (self.now.phase ≢ Turning) → result ≡ Nothing }
     {

@@ -1,10 +1,9 @@
-ghost use Rattle.std.specs.Prelude.{◌≡◌, ◌+◌, ◌≤◌, List, length, take, is_some};
+ghost use Rattle.std.specs.Prelude.{◌≡◌, ◌+◌, ◌≤◌, List, length, take};
 ghost use Rattle.rows.specs.declared.row.Row.{Row as RowOf};
 ghost use Rattle.sources.specs.Meaning.{Closing as ClosingOf};
-ghost use Rattle.pipeline.specs.Freezing.{asking};
 ghost use Rattle.join.specs.declared.phase.Phase.TheVariants.{Fetching};
 ghost use Rattle.machine.specs.Machine.{Setting, Streamed, streamed_read, disorder, step_of};
-ghost use Rattle.join.specs.Shows.{Memory, memory, core_of, setting, Stepped};
+ghost use Rattle.join.specs.Shows.{Memory, memory, Ready, core_of, setting_by, Stepped};
 ghost use Rattle.join.specs.Phases.{pending, fetched};
 ghost use Rattle.join.specs.Taken.{Before, use_taken};
 
@@ -44,10 +43,11 @@ impl<K: Copy> Join<K> {
         table: &mut [Row<K>],
         block: &mut [Entry],
     ) -> Step
-        requires phase { (self.old.phase ≡ Fetching first) × (self.old.queue.due ≡ 0) }
-        requires lengths { (length table.old ≡ self.old.limits.streamed) × (length block.old ≡ self.old.limits.block) }
+        requires phase { self.old.phase ≡ Fetching first }
+        requires ready { Ready self.old block.old }
+        requires table { length table.old ≡ self.old.limits.streamed }
         ensures does { (bl : List (List (RowOf K))) (bc : ClosingOf) (bt : List (RowOf K)) →
-            Stepped (step_of (setting self.old.limits (O.KeyOrder.within order.now) (O.KeyOrder.across order.now) (asking F.Filter.says filter.now) (is_some filter.now))
+            Stepped (step_of (setting_by self.old.limits F.says filter.now (O.within order.now) (O.across order.now))
             (core_of self.old (memory (S.Source.batches source.old) (S.Source.closing source.old) bl bc table.old bt block.old)))
             result (core_of self.new (memory (S.Source.batches source.new) (S.Source.closing source.new) bl bc table.new bt block.new)) }
         ensures limits { self.new.limits ≡ self.old.limits }
@@ -70,15 +70,8 @@ impl<K: Copy> Join<K> {
             return Step::Going;
         }
         if self.queue.unfrozen > 0 {
-            let base = self.buffered.base;
-            freeze_unfrozen(
-                &mut self.queue,
-                &mut self.states,
-                filter,
-                self.limits.kind,
-                base,
-                block,
-            );
+            let judge = self.judge(filter);
+            freeze_unfrozen(&mut self.queue, &mut self.states, &judge, block);
             return Step::Going;
         }
         let _ = source.take(table);
@@ -93,7 +86,9 @@ impl<K: Copy> Join<K> {
         table: &[Row<K>],
         n: usize,
     ) -> Step
-        requires { (n ≤ self.old.limits.streamed) × ((n ≤ length table.now) × (self.old.streamed.first + self.old.streamed.rows + n ≤ 16777215)) }
+        requires fits { n ≤ self.old.limits.streamed }
+        requires taken { n ≤ length table.now }
+        requires places { self.old.streamed.first + self.old.streamed.rows + n ≤ 16777215 }
         ensures does { (c : Setting K) (m : Memory K) (st : Streamed K) → c.kind ≡ self.old.limits.kind → m.streamed ≡ table.now → Before self.old m st →
             Stepped (use_taken c (disorder (O.KeyOrder.within order.now) st.last (take n m.streamed) (streamed_read st)) first n self.old m st) result (core_of self.new m) }
         ensures limits { self.new.limits ≡ self.old.limits }

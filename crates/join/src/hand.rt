@@ -23,7 +23,8 @@ fn hand_next(queue: &mut Queue, block: &[Entry])
 impl<K: Copy> Join<K> {
     // The next due record is handed over, if it fits.
     pub(crate) fn hand<T: Sink>(&mut self, block: &[Entry], sink: &mut T) -> Step
-        requires { (0 < self.old.queue.due) × (length block.now ≡ self.old.limits.block) }
+        requires due { 0 < self.old.queue.due }
+        requires block { length block.now ≡ self.old.limits.block }
         ensures does { (c : Setting K) (m : Memory K) →
             MovedBy (micro c T.Sink.fitting T.Sink.after (core_of self.old (with_block block.now m)) (T.Sink.value sink.old))
             result (core_of self.new (with_block block.now m)) (T.Sink.value sink.new) }

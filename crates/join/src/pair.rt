@@ -1,14 +1,10 @@
-ghost use Rattle.std.specs.Prelude.{◌≡◌, ℕ, ◌+◌, ◌<◌, ◌≤◌, min, List, ◌++◌, length, take, drop, is_some};
+ghost use Rattle.std.specs.Prelude.{◌≡◌, ℕ, ◌+◌, ◌<◌, ◌≤◌, min, ◌++◌, length, take, drop};
 ghost use Rattle.std.specs.declared.cmp.Ordering.TheVariants.{Equal as Same};
 ghost use Rattle.std.specs.declared.cmp.Ordering.{Ordering as Compared};
-ghost use Rattle.rows.specs.declared.row.Row.{Row as RowOf};
-ghost use Rattle.sources.specs.Meaning.{Closing as ClosingOf};
-ghost use Rattle.pipeline.specs.Freezing.{asking};
-ghost use Rattle.pipeline.specs.Block.{queued};
 ghost use Rattle.pipeline.specs.Held.{holding, run_at, pairs_with};
 ghost use Rattle.join.specs.declared.phase.Phase.TheVariants.{Turning, Pairing};
-ghost use Rattle.machine.specs.Machine.{Setting, compared, going, step_of};
-ghost use Rattle.join.specs.Shows.{Memory, memory, setting, FitsMemory, core_of, streamed_of, buffered_of, counts_of};
+ghost use Rattle.machine.specs.Machine.{Setting, going, step_of};
+ghost use Rattle.join.specs.Shows.{Memory, with_block, with_tables, FitsTables, FitsMemory, Ready, core_of, setting_by, turned};
 ghost use Rattle.join.specs.Pairing.{Written, adding};
 ghost use Rattle.join.specs.Phases.{pending};
 
@@ -25,8 +21,9 @@ use rows::row::Row;
 impl<K: Copy> Join<K> {
     // The streamed row is same as the run: its pairs begin with the run's first row.
     pub(crate) fn begin_pairs(&mut self)
-        requires { (self.old.phase ≡ Turning) × (self.old.queue.frozen + self.old.queue.unfrozen < self.old.limits.batch) }
-        ensures does { (c : Setting K) (m : Memory K) → FitsMemory self.old.limits m → compared c Same (streamed_of self.old m) (buffered_of self.old m) (queued self.old.queue m.block) (counts_of self.old.counts) ≡ going (core_of self.new m) }
+        requires phase { self.old.phase ≡ Turning }
+        requires below { self.old.queue.frozen + self.old.queue.unfrozen < self.old.limits.batch }
+        ensures does { (c : Setting K) (m : Memory K) → FitsMemory self.old.limits m → turned c Same self.old m ≡ going (core_of self.new m) }
         ensures limits { self.new.limits ≡ self.old.limits }
     {
         let batches = &self.buffered.batches[..self.buffered.count];
@@ -80,7 +77,9 @@ impl<K: Copy> Join<K> {
         buffered: &[Row<K>],
         block: &mut [Entry],
     ) -> usize
-        requires { (self.old.phase ≡ Pairing pairs) × ((self.old.queue.due ≡ 0) × ((length streamed.now ≡ self.old.limits.streamed) × ((length buffered.now ≡ self.old.limits.buffered) × (length block.old ≡ self.old.limits.block)))) }
+        requires phase { self.old.phase ≡ Pairing pairs }
+        requires ready { Ready self.old block.old }
+        requires tables { FitsTables self.old.limits streamed.now buffered.now }
         ensures { Written self.old self.new streamed.now buffered.now block.old block.new result }
     {
         let at = self.streamed.at;
@@ -116,23 +115,17 @@ impl<K: Copy> Join<K> {
         filter: &Option<F>,
         block: &mut [Entry],
     )
-        requires room { (self.old.queue.due ≡ 0) × ((self.old.queue.unfrozen + count ≤ self.old.limits.batch) × (length block.old ≡ self.old.limits.block)) }
+        requires ready { Ready self.old block.old }
+        requires room { self.old.queue.unfrozen + count ≤ self.old.limits.batch }
         requires bounded { self.old.queue.frozen + self.old.queue.unfrozen + self.old.queue.noted + count + pending self.old.phase ≤ self.old.limits.batch + self.old.limits.buffered }
-        ensures does { (within : K → K → Compared) (across : K → K → Compared) (sl : List (List (RowOf K))) (sc : ClosingOf) (bl : List (List (RowOf K))) (bc : ClosingOf) (st : List (RowOf K)) (bt : List (RowOf K)) →
-            adding (setting self.old.limits within across (asking F.Filter.says filter.now) (is_some filter.now)) count self.old (memory sl sc bl bc st bt block.old)
-            ≡ going (core_of self.new (memory sl sc bl bc st bt block.new)) }
+        ensures does { (within across : K → K → Compared) (m : Memory K) →
+            adding (setting_by self.old.limits F.says filter.now within across) count self.old (with_block block.old m) ≡ going (core_of self.new (with_block block.new m)) }
         ensures limits { self.new.limits ≡ self.old.limits }
     {
+        let judge = self.judge(filter);
         self.queue.unfrozen += count;
         if self.queue.unfrozen >= self.limits.batch {
-            freeze_everything(
-                &mut self.queue,
-                &mut self.states,
-                filter,
-                self.limits.kind,
-                self.buffered.base,
-                block,
-            );
+            freeze_everything(&mut self.queue, &mut self.states, &judge, block);
         }
     }
 
@@ -145,10 +138,12 @@ impl<K: Copy> Join<K> {
         buffered: &[Row<K>],
         block: &mut [Entry],
     )
-        requires { (self.old.phase ≡ Pairing pairs) × ((self.old.queue.due ≡ 0) × ((length streamed.now ≡ self.old.limits.streamed) × ((length buffered.now ≡ self.old.limits.buffered) × (length block.old ≡ self.old.limits.block)))) }
-        ensures does { (within : K → K → Compared) (across : K → K → Compared) (sl : List (List (RowOf K))) (sc : ClosingOf) (bl : List (List (RowOf K))) (bc : ClosingOf) →
-            step_of (setting self.old.limits within across (asking F.Filter.says filter.now) (is_some filter.now)) (core_of self.old (memory sl sc bl bc streamed.now buffered.now block.old))
-            ≡ going (core_of self.new (memory sl sc bl bc streamed.now buffered.now block.new)) }
+        requires phase { self.old.phase ≡ Pairing pairs }
+        requires ready { Ready self.old block.old }
+        requires tables { FitsTables self.old.limits streamed.now buffered.now }
+        ensures does { (within across : K → K → Compared) (m : Memory K) →
+            step_of (setting_by self.old.limits F.says filter.now within across) (core_of self.old (with_tables streamed.now buffered.now block.old m))
+            ≡ going (core_of self.new (with_tables streamed.now buffered.now block.new m)) }
         ensures limits { self.new.limits ≡ self.old.limits }
     {
         let count = self.write_pairs(pairs, streamed, buffered, block);

@@ -4,6 +4,7 @@ ghost use Rattle.join.specs.Phases.{pending};
 use crate::limits::Limits;
 use crate::parts::{Counts, StreamedBatch};
 use crate::phase::Phase;
+use pipeline::freeze::Judge;
 use pipeline::held::BufferedData;
 use pipeline::queue::Queue;
 use pipeline::states::States;
@@ -13,6 +14,7 @@ use rows::row::Row;
 // given, the entries in the block.
 #[derive(Drop)]
 pub struct Join<K> {
+    // no step changes them; each says so in a clause of its own, since a name for that clause would be no shorter
     pub(crate) limits: Limits,
     pub(crate) phase: Phase,
     pub(crate) counts: Counts,
@@ -32,4 +34,17 @@ pub struct Join<K> {
     ghost room: { queue.frozen + queue.unfrozen + queue.noted + pending phase ≤ limits.batch + limits.buffered },
     ghost below: { queue.unfrozen < limits.batch },
     ghost front: { queue.next + queue.due ≤ limits.block },
+}
+
+impl<K> Join<K> {
+    // What the join judges pairs with.
+    pub(crate) fn judge<'a, F>(&self, filter: &'a Option<F>) -> Judge<'a, F>
+        ensures { result ≡ record { filter = filter.entry; kind = self.now.limits.kind; base = self.now.buffered.base } }
+    {
+        Judge {
+            filter,
+            kind: self.limits.kind,
+            base: self.buffered.base,
+        }
+    }
 }

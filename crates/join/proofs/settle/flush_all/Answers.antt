@@ -1,41 +1,28 @@
-use Rattle.std.proofs.Common.{is_ok, Bool, sym, ap, ◌∙◌}
-use Rattle.pipeline.specs.Block.{queued, correct, release}
-use Rattle.pipeline.specs.Freezing.{asking, judged_all}
+use Rattle.std.proofs.Common.{Bool, is_ok, sym, refl, subst, ◌∙◌}
+use Rattle.pipeline.specs.Block.{queued}
 use Rattle.machine.specs.Machine.{flush}
-use Rattle.pipeline.proofs.Queues.{counts}
-use Rattle.join.proofs.Settling.{made_by, freezes_now, hands_now, marked}
+use Rattle.join.specs.Settled.{Settled, asked}
+use Rattle.join.proofs.Settling.{froze_now, idle_then, freeze_all_settles, release_settles, correct_settles, settled_then, marked}
 use Rattle.join.proofs.settle.flush_all.Goals as goal
 
 pub returns-then-defers : goal.returns-then-defers
 returns-then-defers g c =
-    let q = c.args.queue.now in
-    let block = c.args.block.now in
-    let room = c.requires.0 in
-    let asks = asking g.F.Filter.says c.args.filter.now in
-    let m = made_by c.freeze_all.ensures.block (freezes_now q block room c.requires.1) room in
-    let n = counts q block room in
-    let last = made_by c.correct.ensures (hands_now c.freeze_all.new.self c.freeze_all.new.block m.roomy (m.due ∙ n.3 ∙ c.requires.1) m.unfrozen) m.roomy in
-    let after = counts c.freeze_all.new.self c.freeze_all.new.block m.roomy in
+    let judge = c.args.judge.now in
+    let asks = asked g.F.Filter.says judge in
+    let all = freeze_all_settles c.requires asks c.freeze_all.ensures.block in
     record {
-      queue = last.holds ∙ ap (correct c.args.kind) m.holds ∙ ap (λ (b : Bool). flush b c.args.kind asks (queued q block)) (sym c.if-defers.true ∙ c.defers.ensures);
-      states = marked c.args.kind asks c.args.base (judged_all asks (queued q block).unfrozen) c.args.states.now c.freeze_all.new.states (is_ok c.freeze_all.result) m.answers c.freeze_all.ensures.states;
-      roomy = last.roomy;
-      numbers = (last.frozen, (last.unfrozen ∙ after.1 ∙ m.unfrozen, last.noted ∙ after.0 ∙ m.noted));
+      queue = subst (λ (b : Bool). Settled (flush b judge.kind asks) c.args.queue.now c.args.block.now c.correct.new.self c.correct.new.block) (sym c.if-defers.true ∙ c.defers.ensures)
+          (settled_then all (correct_settles (idle_then c.requires c.freeze_all.ensures.block refl) all.unfrozen judge.kind c.correct.ensures));
+      states = marked g.F.Filter.says judge (queued c.args.queue.now c.args.block.now) c.args.states.now c.freeze_all.new.states (is_ok c.freeze_all.result) (froze_now c.requires c.freeze_all.ensures.block).answers c.freeze_all.ensures.states;
     }
 
 pub returns-else-defers : goal.returns-else-defers
 returns-else-defers g c =
-    let q = c.args.queue.now in
-    let block = c.args.block.now in
-    let room = c.requires.0 in
-    let asks = asking g.F.Filter.says c.args.filter.now in
-    let m = made_by c.freeze_all.ensures.block (freezes_now q block room c.requires.1) room in
-    let n = counts q block room in
-    let last = made_by c.release.ensures (hands_now c.freeze_all.new.self c.freeze_all.new.block m.roomy (m.due ∙ n.3 ∙ c.requires.1) m.unfrozen) m.roomy in
-    let after = counts c.freeze_all.new.self c.freeze_all.new.block m.roomy in
+    let judge = c.args.judge.now in
+    let asks = asked g.F.Filter.says judge in
+    let all = freeze_all_settles c.requires asks c.freeze_all.ensures.block in
     record {
-      queue = last.holds ∙ ap release m.holds ∙ ap (λ (b : Bool). flush b c.args.kind asks (queued q block)) (sym c.if-defers.false ∙ c.defers.ensures);
-      states = marked c.args.kind asks c.args.base (judged_all asks (queued q block).unfrozen) c.args.states.now c.freeze_all.new.states (is_ok c.freeze_all.result) m.answers c.freeze_all.ensures.states;
-      roomy = last.roomy;
-      numbers = (last.frozen, (last.unfrozen ∙ after.1 ∙ m.unfrozen, last.noted ∙ after.0 ∙ m.noted));
+      queue = subst (λ (b : Bool). Settled (flush b judge.kind asks) c.args.queue.now c.args.block.now c.release.new.self c.release.new.block) (sym c.if-defers.false ∙ c.defers.ensures)
+          (settled_then all (release_settles (idle_then c.requires c.freeze_all.ensures.block refl) all.unfrozen c.release.ensures));
+      states = marked g.F.Filter.says judge (queued c.args.queue.now c.args.block.now) c.args.states.now c.freeze_all.new.states (is_ok c.freeze_all.result) (froze_now c.requires c.freeze_all.ensures.block).answers c.freeze_all.ensures.states;
     }

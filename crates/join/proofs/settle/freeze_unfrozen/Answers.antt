@@ -1,32 +1,17 @@
-use Rattle.std.proofs.Common.{is_ok, is_some, ap, ◌∙◌, arith}
+use Rattle.std.proofs.Common.{is_ok, refl}
 use Rattle.pipeline.specs.Block.{queued}
-use Rattle.pipeline.specs.Freezing.{asking, judged_all}
-use Rattle.machine.specs.Machine.{let_go, is_deferred}
-use Rattle.pipeline.proofs.Queues.{counts}
-use Rattle.join.proofs.Settling.{made_by, freezes_now, freeze_count, marked}
+use Rattle.join.specs.Settled.{asked}
+use Rattle.join.proofs.Settling.{froze_now, idle_then, freeze_settles, settled_then, marked}
 use Rattle.join.proofs.settle.freeze_unfrozen.Goals as goal
 
 pub let_frozen_go-requires : goal.let_frozen_go-requires
-let_frozen_go-requires g c =
-    let q = c.args.queue.now in
-    let block = c.args.block.now in
-    let room = c.requires.0 in
-    let m = made_by c.freeze.ensures.block (freezes_now q block room c.requires.1) room in
-    let n = counts q block room in
-    (m.roomy, (m.due ∙ n.3 ∙ c.requires.1, m.unfrozen))
+let_frozen_go-requires g c = record {
+  idle = idle_then c.requires c.freeze.ensures.block refl;
+  unfrozen = (froze_now c.requires c.freeze.ensures.block).unfrozen;
+}
 
 pub returns : goal.returns
-returns g c =
-    let q = c.args.queue.now in
-    let block = c.args.block.now in
-    let room = c.requires.0 in
-    let asks = asking g.F.Filter.says c.args.filter.now in
-    let m = made_by c.freeze.ensures.block (freezes_now q block room c.requires.1) room in
-    let n = counts q block room in
-    let after = c.let_frozen_go.ensures in
-    record {
-      queue = after.queue ∙ ap (let_go (is_deferred (is_some c.args.filter.now) c.args.kind)) m.holds;
-      states = marked c.args.kind asks c.args.base (judged_all asks (queued q block).unfrozen) c.args.states.now c.freeze.new.states (is_ok c.freeze.result) m.answers c.freeze.ensures.states;
-      roomy = after.roomy;
-      numbers = (omega (arith, after.numbers.0, m.frozen, freeze_count q block room c.requires.1 asks), (after.numbers.1.0, after.numbers.1.1 ∙ m.noted ∙ n.0));
-    }
+returns g c = record {
+  queue = settled_then (freeze_settles c.requires (asked g.F.Filter.says c.args.judge.now) c.freeze.ensures.block) c.let_frozen_go.ensures;
+  states = marked g.F.Filter.says c.args.judge.now (queued c.args.queue.now c.args.block.now) c.args.states.now c.freeze.new.states (is_ok c.freeze.result) (froze_now c.requires c.freeze.ensures.block).answers c.freeze.ensures.states;
+}

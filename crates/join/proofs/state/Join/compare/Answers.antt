@@ -5,7 +5,7 @@ use Rattle.join.proofs.state.Join.compare.Goals as goal
 
 pub returns-then-self : goal.returns-then-self
 returns-then-self g c = record {
-  turning = λ turning s m fits size across ours theirs. sym (compares_nothing s c.args.self.now m fits size c.if-self.true);
+  turning = λ turning s m fits size across ours theirs. sym (compares_nothing s c.args.self.now m size fits.block_length c.if-self.true);
   otherwise = λ not. refl;
 }
 

@@ -4,15 +4,14 @@ use Rattle.pipeline.specs.Held.{holding}
 use Rattle.pipeline.proofs.Queues.{counts}
 use Rattle.join.specs.Shows.{streamed_of, buffered_of, counts_of, phase_of}
 use Rattle.join.proofs.Handing.{some_due, next_handed, next_waits}
-use Rattle.join.proofs.Settling.{roomy_of}
 use Rattle.join.proofs.state.Join.hand.Goals as goal
 
 pub returns-in_default : goal.returns-in_default
 returns-in_default g c =
     let j = c.args.self.now in
     let block = c.args.block.now in
-    let room = roomy_of j block c.requires.1 in
-    absurd (some_due (queued j.queue block).due (omega (arith, (counts j.queue block room).3, c.requires.0)) (sym c.in_default.is ∙ c.next_due.ensures))
+    let n = counts j.queue block (record { held = omega (arith, j.room, j.limits.room, c.requires.block); front = omega (arith, j.front, c.requires.block) }) in
+    absurd (some_due (queued j.queue block).due (omega (arith, n.3, c.requires.due)) (sym c.in_default.is ∙ c.next_due.ensures))
 
 pub returns-then-is_err : goal.returns-then-is_err
 returns-then-is_err g c =

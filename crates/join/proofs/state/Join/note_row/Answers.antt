@@ -1,21 +1,43 @@
-use Rattle.std.proofs.Common.{◌≡◌, ◌<◌, true, length, is_some, sym, refl, ◌∙◌, arith}
+use Rattle.std.proofs.Common.{◌≡◌, true, sym, refl, ◌∙◌, arith}
 use Rattle.rows.specs.Sides.{is_outer}
-use Rattle.pipeline.specs.Block.{queued}
-use Rattle.pipeline.specs.Freezing.{asking}
+use Rattle.pipeline.specs.Block.{queued, freeze_all}
+use Rattle.pipeline.specs.States.{states_of}
 use Rattle.pipeline.proofs.Queues.{counts}
-use Rattle.join.specs.Shows.{streamed_of, buffered_of, counts_of, setting}
-use Rattle.join.proofs.Turning.{lone_waits}
+use Rattle.machine.specs.Machine.{passing, let_go}
+use Rattle.join.specs.Settled.{defers, asked}
+use Rattle.join.specs.Shows.{streamed_of, buffered_of, counts_of, setting_by}
+use Rattle.join.proofs.Settling.{settled_as, marked_as}
+use Rattle.join.proofs.Turning.{freeze_waits, freeze_fills, lone_pushed}
 use Rattle.join.proofs.state.Join.note_row.Goals as goal
+
+pub returns-then-self : goal.returns-then-self
+returns-then-self g c =
+    let j = c.args.self.now in
+    let q = queued j.queue c.args.block.now in
+    let q' = queued c.push_lone.new.queue c.push_lone.new.block in
+    let lists : is_outer j.limits.kind ≡ true = sym c.lists_streamed.ensures ∙ c.if-not-lists_streamed.false in
+    let says = g.F.Filter.says in
+    record {
+      does = λ within across m.
+          let s = setting_by j.limits says c.args.filter.now within across in
+          lone_pushed s (streamed_of j m) (buffered_of j m) q q' (counts_of j.counts) lists c.push_lone.ensures.queue
+          ∙ freeze_fills s passing (streamed_of j m) (buffered_of j m) q' (counts_of j.counts) (omega (arith, (counts c.push_lone.new.queue c.push_lone.new.block c.push_lone.ensures.roomy).1, c.if-self.true))
+          (states_of c.freeze_everything.new.states) (queued c.freeze_everything.new.queue c.freeze_everything.new.block)
+          (marked_as says c.judge-judge.ensures c.freeze_everything.ensures.states).marks
+          (settled_as says c.judge-judge.ensures (λ judge q. let_go (defers judge) (freeze_all (asked says judge) q)) c.freeze_everything.ensures.queue).holds;
+      limits = refl;
+    }
 
 pub returns-else-self : goal.returns-else-self
 returns-else-self g c =
     let j = c.args.self.now in
-    let f = c.args.filter.now in
-    let q' = c.push_lone.new.queue in
-    let block' = c.push_lone.new.block in
+    let q = queued j.queue c.args.block.now in
+    let q' = queued c.push_lone.new.queue c.push_lone.new.block in
     let lists : is_outer j.limits.kind ≡ true = sym c.lists_streamed.ensures ∙ c.if-not-lists_streamed.false in
-    let few : length (queued q' block').unfrozen < j.limits.batch = omega (arith, (counts q' block' c.push_lone.ensures.roomy).1, c.if-self.false) in
     record {
-      does = λ within across m. lone_waits (setting j.limits within across (asking g.F.Filter.says f) (is_some f)) (streamed_of j m) (buffered_of j m) (queued j.queue c.args.block.now) (queued q' block') (counts_of j.counts) lists c.push_lone.ensures.queue few;
+      does = λ within across m.
+          let s = setting_by j.limits g.F.Filter.says c.args.filter.now within across in
+          lone_pushed s (streamed_of j m) (buffered_of j m) q q' (counts_of j.counts) lists c.push_lone.ensures.queue
+          ∙ freeze_waits s passing (streamed_of j m) (buffered_of j m) q' (counts_of j.counts) (omega (arith, (counts c.push_lone.new.queue c.push_lone.new.block c.push_lone.ensures.roomy).1, c.if-self.false));
       limits = refl;
     }

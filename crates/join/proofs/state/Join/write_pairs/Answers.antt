@@ -1,7 +1,7 @@
 use Rattle.std.proofs.Common.{◌≡◌, ◌≤◌, refl, ap, arith}
 use Rattle.pipeline.specs.Held.{Holding, holding, matching}
-use Rattle.join.specs.Shows.{memory}
-use Rattle.join.proofs.Writing.{passes, Scanned, scan_long, scan_left, scan_room, scan_ends, scan_goes_on}
+use Rattle.join.specs.Shows.{with_tables}
+use Rattle.join.proofs.Writing.{fits_memory, passes, Scanned, scan_long, scan_left, scan_room, scan_ends, scan_goes_on}
 use Rattle.join.proofs.state.Join.write_pairs.Goals as goal
 
 pub returns-then-at-self : goal.returns-then-at-self
@@ -13,9 +13,8 @@ returns-then-at-self g c = record {
   long = refl;
   few = omega arith;
   room = omega arith;
-  none = λ none s kind size sl sc bl bc.
-      passes s c.args.self.now (memory sl sc bl bc c.args.streamed.now c.args.buffered.now c.args.block.now)
-      (record { streamed_length = c.requires.1.1.0; buffered_length = c.requires.1.1.1.0; block_length = c.requires.1.1.1.1 }) c.args.pairs c.requires.0 c.if-at-self.true;
+  none = λ none s kind size m.
+      passes s c.args.self.now (with_tables c.args.streamed.now c.args.buffered.now c.args.block.now m) (fits_memory c.requires.ready c.requires.tables m) c.args.pairs c.requires.phase c.if-at-self.true;
   some = λ some. absurd (omega arith);
 }
 
@@ -24,11 +23,9 @@ returns-then-stop-eq0 g c =
     let j = c.args.self.now in
     let k = c.pair_into-stop.result.count in
     let w : Scanned j c.args.pairs c.args.streamed.now c.args.buffered.now c.args.block.now c.pair_into-stop.new.out c.min-most.result k c.index-streamed-at.result = record {
-      phase = c.requires.0;
-      none_due = c.requires.1.0;
-      streamed_length = c.requires.1.1.0;
-      buffered_length = c.requires.1.1.1.0;
-      block_length = c.requires.1.1.1.1;
+      phase = c.requires.phase;
+      ready = c.requires.ready;
+      tables = c.requires.tables;
       within = c.if-at-self.false;
       is_row = c.index-streamed-at.is;
       is_most = c.min-most.ensures;
@@ -44,7 +41,7 @@ returns-then-stop-eq0 g c =
       long = scan_long j c.args.pairs c.args.streamed.now c.args.buffered.now c.args.block.now c.pair_into-stop.new.out c.min-most.result k c.index-streamed-at.result w;
       few = omega arith;
       room = omega arith;
-      none = λ none s kind size sl sc bl bc. scan_ends j c.args.pairs c.args.streamed.now c.args.buffered.now c.args.block.now c.pair_into-stop.new.out c.min-most.result k c.index-streamed-at.result w s kind size sl sc bl bc c.if-stop-eq0.true c.mark_matched.new.self matched;
+      none = λ none s kind size m. scan_ends j c.args.pairs c.args.streamed.now c.args.buffered.now c.args.block.now c.pair_into-stop.new.out c.min-most.result k c.index-streamed-at.result w s kind size m c.if-stop-eq0.true c.mark_matched.new.self matched;
       some = λ some. absurd (omega arith);
     }
 
@@ -53,11 +50,9 @@ returns g c =
     let j = c.args.self.now in
     let k = c.pair_into-stop.result.count in
     let w : Scanned j c.args.pairs c.args.streamed.now c.args.buffered.now c.args.block.now c.pair_into-stop.new.out c.min-most.result k c.index-streamed-at.result = record {
-      phase = c.requires.0;
-      none_due = c.requires.1.0;
-      streamed_length = c.requires.1.1.0;
-      buffered_length = c.requires.1.1.1.0;
-      block_length = c.requires.1.1.1.1;
+      phase = c.requires.phase;
+      ready = c.requires.ready;
+      tables = c.requires.tables;
       within = c.if-at-self.false;
       is_row = c.index-streamed-at.is;
       is_most = c.min-most.ensures;
@@ -74,7 +69,7 @@ returns g c =
       few = scan_left j c.args.pairs c.args.streamed.now c.args.buffered.now c.args.block.now c.pair_into-stop.new.out c.min-most.result k c.index-streamed-at.result w;
       room = scan_room j c.args.pairs c.args.streamed.now c.args.buffered.now c.args.block.now c.pair_into-stop.new.out c.min-most.result k c.index-streamed-at.result w;
       none = λ none. absurd (omega (arith, more, none));
-      some = λ some s kind size sl sc bl bc.
-          scan_goes_on j c.args.pairs c.args.streamed.now c.args.buffered.now c.args.block.now c.pair_into-stop.new.out c.min-most.result k c.index-streamed-at.result w s kind size sl sc bl bc some
+      some = λ some s kind size m.
+          scan_goes_on j c.args.pairs c.args.streamed.now c.args.buffered.now c.args.block.now c.pair_into-stop.new.out c.min-most.result k c.index-streamed-at.result w s kind size m some
           c.pair_into-stop.result.position.batch c.pair_into-stop.result.position.row c.pair_into-stop.ensures.left;
     }
