@@ -63,7 +63,7 @@ where
     }
 }
 
-// The joined table of two logs of a kind of key.
+// The joined table of two logs of a kind of key. The logs stand apart: they are read in turn, and a fault names its side.
 fn table_of_logs<L: LogKey>(
     heap: Global,
     kind: L,

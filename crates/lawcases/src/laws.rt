@@ -50,6 +50,8 @@ impl fmt::Display for LawTallies {
     }
 }
 
+// A law is asked of an order and of single keys, which stand apart as they do in the law.
+
 fn turns_round<O: KeyOrder>(order: &O, a: &O::Key, b: &O::Key) -> bool {
     order.compare_within(b, a) == order.compare_within(a, b).reverse()
 }

@@ -136,7 +136,8 @@ fn say_few(rt: &HostRuntime, memory: &mut [Row<FrameKey>]) -> io::Result<()> {
     say_named(rt, "cut in a bad key", &[0, 1, 1, 0, 7, 9], memory)
 }
 
-// The rows of a log, and what is said of each cut and each change of it.
+// The rows of a log, and what is said of each cut and each change of it. What is shown is handed on piece by piece: a struct of
+// it would be taken apart at once.
 fn say_log<F: KeyKind + Copy, const N: usize>(
     rt: &HostRuntime,
     bytes: &[u8; N],
