@@ -1,12 +1,10 @@
 -- A fetch of the code against the machine's, path by path.
-use Rattle.std.proofs.Common.{◌≡◌, ℕ, zero, suc, ◌+◌, ◌<◌, ◌≤◌, Bool, true, false, cond, leb, List, [], ◌∷◌, length, take, drop, Some, None, Ok, Err, Option, Result, Ordering, sym, refl, ap, ◌∙◌, subst, arith}
+use Rattle.std.proofs.Common.{◌≡◌, ℕ, zero, suc, ◌+◌, ◌<◌, ◌≤◌, Bool, false, List, [], ◌∷◌, length, take, drop, Some, Ok, Err, Option, Result, Ordering, sym, refl, ap, ◌∙◌, subst, arith}
 use Rattle.std.proofs.lemmas.List.{length-take-le, length-drop}
-use Rattle.std.proofs.lemmas.Bool.{leb-true}
 use Rattle.rows.specs.declared.kind.Side.{Side}
 use Rattle.rows.specs.declared.reading.Reading.{Reading}
 use Rattle.rows.specs.declared.row.Row.{Row}
 use Rattle.rows.specs.Sides.{streamed_side}
-use Rattle.sources.specs.declared.fault.SourceFault.{SourceFault}
 use Rattle.sources.specs.Meaning.{Closing, upcoming, take_of, Took}
 use Rattle.pipeline.specs.declared.entry.Entry.{Entry}
 use Rattle.pipeline.specs.declared.states.FilterState.{FilterState}
@@ -16,9 +14,8 @@ use Rattle.pipeline.specs.Held.{holding}
 use Rattle.pipeline.specs.States.{marking}
 use Rattle.machine.specs.declared.fault.JoinFault.{JoinFault}
 use Rattle.machine.specs.declared.fault.JoinFault.TheVariants.{Unsorted}
-use Rattle.machine.specs.Machine.{Setting, Streamed, Buffered, Counts, Phase, fetching, stopped, Core, core, Outcome, going, answered, Told, most_rows, streamed_read, deferred, let_go, marked_by, disorder, step, step_of, stops, skipped, at_end, after_fetch, fetch_taken, fetch_checked}
+use Rattle.machine.specs.Machine.{Setting, Streamed, Buffered, Counts, fetching, stopped, Core, core, Outcome, going, answered, Told, streamed_read, deferred, let_go, marked_by, disorder, step, step_of, stops, skipped, at_end, after_fetch, fetch_taken}
 use Rattle.join.specs.declared.load.LoadFault.{LoadFault}
-use Rattle.join.specs.declared.load.LoadFault.TheVariants.{TableFull, TooManyRows}
 use Rattle.join.specs.declared.phase.Phase.{Phase as PhaseOf}
 use Rattle.join.specs.declared.phase.Phase.TheVariants.{Fetching}
 use Rattle.join.specs.declared.state.Join.{Join}
@@ -33,18 +30,6 @@ use Rattle.join.proofs.Loading.{told, loading_told, fetch_is}
 pub said : {K : Type 0} {o : Outcome K} {told : Told} {r : Step} {after : Core K} → r ≡ Said told → o ≡ answered told after → Stepped o r after
 said {K} {o} {told} {r} {after} is stops = subst (λ (x : Step). Stepped o x after) (sym is) stops
 
--- a batch that passes the checks has no more rows than the table has space for
-pub checked_fits : (x : Result (Option ℕ) SourceFault) (read space n : ℕ) → Ok (Some n) ≡ checked x read false space → n ≤ space
-checked_fits (Err f) read space n h = cc
-checked_fits (Ok None) read space n h = cc
-checked_fits (Ok (Some zero)) read space n h = let z : n ≡ 0 = cc in omega arith
-checked_fits (Ok (Some (suc k))) read space n h = go (leb (read + suc k) most_rows) (leb (suc k) space) refl h
-  where
-    go : (a b : Bool) → leb (suc k) space ≡ b → Ok (Some n) ≡ cond a (cond b (Ok (Some (suc k))) (Err TableFull)) (Err TooManyRows) → n ≤ space
-    go true true is h = let z : n ≡ suc k = cc in omega (arith, leb-true (suc k) space is)
-    go true false is h = cc
-    go false b is h = cc
-
 -- a batch with a row out of order stops the join
 pub unsorted_stops : {K : Type 0} (c : Setting K) (within : K → K → Ordering) (j : Join K) (m : Memory K) (st : Streamed K) (first : Bool) (n k read : ℕ) (taken : List (Row K)) (side : Side) (r : Step) (after : Core K)
     → c.kind ≡ j.limits.kind → Before j m st → side ≡ streamed_side j.limits.kind → read ≡ j.streamed.first + j.streamed.rows
@@ -52,20 +37,8 @@ pub unsorted_stops : {K : Type 0} (c : Setting K) (within : K → K → Ordering
     → after ≡ core (record { batches = m.streamed_batches; closing = m.streamed_closing; first = read; rows = []; at = 0; ended = false; last = j.streamed_last }) (buffered_of j m) (queued j.queue m.block) (counts_of j.counts) (stopped (Unsorted side k))
     → Stepped (use_taken c (disorder within st.last (take n m.streamed) (streamed_read st)) first n j m st) r after
 unsorted_stops {K} c within j m st first n k read taken side r after kind b is_side is_read is_taken found is_r is_after =
-    let reads : streamed_read st ≡ read = b.read_same ∙ sym is_read in
-    let finds : disorder within st.last (take n m.streamed) (streamed_read st) ≡ Some k =
-    ap (λ (w : Option (Row K)). disorder within w (take n m.streamed) (streamed_read st)) b.last_same ∙ ap (disorder within j.streamed_last (take n m.streamed)) reads
-    ∙ ap (λ (l : List (Row K)). disorder within j.streamed_last l read) (sym is_taken) ∙ sym found in
-    let sides : streamed_side c.kind ≡ side = ap streamed_side kind ∙ sym is_side in
-    said is_r (ap (λ (d : Option ℕ). use_taken c d first n j m st) finds
-    ∙ ap (λ (x : Side). stop x st.closing (streamed_read st) st.last) sides
-    ∙ ap (λ (x : Closing). stop side x (streamed_read st) st.last) b.closing_same
-    ∙ ap (λ (x : ℕ). stop side m.streamed_closing x st.last) reads
-    ∙ ap (λ (x : Option (Row K)). stop side m.streamed_closing read x) b.last_same
-    ∙ ap (λ (x : Core K). answered (Err (Unsorted side k)) x) (sym is_after))
-  where
-    stop : Side → Closing → ℕ → Option (Row K) → Outcome K
-    stop side close read last = answered (Err (Unsorted side k)) (core (record { batches = m.streamed_batches; closing = close; first = read; rows = []; at = 0; ended = false; last = last }) (buffered_of j m) (queued j.queue m.block) (counts_of j.counts) (stopped (Unsorted side k)))
+    let finds : disorder within st.last (take n m.streamed) (streamed_read st) ≡ Some k = rw (b.last_same, b.read_same, ← is_read, ← is_taken) (sym found) in
+    said is_r (ap (λ (d : Option ℕ). use_taken c d first n j m st) finds ∙ rw (kind, ← is_side, b.closing_same, b.read_same, ← is_read, b.last_same, is_after) refl)
 
 module _ {K : Type 0} (j : Join K) (first : Bool) (within across : K → K → Ordering) (asks : Reading → Reading → Bool) (filtered : Bool) (m : Memory K)
     (read : ℕ) (is_phase : j.phase ≡ Fetching first) (long : length m.streamed ≡ j.limits.streamed) (is_read : read ≡ j.streamed.first + j.streamed.rows) where
@@ -118,10 +91,7 @@ module _ {K : Type 0} (j : Join K) (first : Bool) (within across : K → K → O
       → Err f ≡ asked → side ≡ streamed_side j.limits.kind → fault ≡ on_side f side read → r ≡ Said (Err fault) → after ≡ core st bf q n (stopped fault)
       → Stepped (step_of s (core_of j m)) r after
   fetch_stops f side fault r after fails is_side is_fault is_r is_after =
-      let is : on_side f (streamed_side j.limits.kind) read ≡ fault = cc in
-      said is_r (fetch_told ∙ ap (comes_to read) (sym fails)
-      ∙ ap (λ (x : JoinFault). answered (Err x) (core st bf q n (stopped x))) is
-      ∙ ap (λ (x : Core K). answered (Err fault) x) (sym is_after))
+      said is_r (fetch_told ∙ rw (← fails, ← is_side, ← is_fault, is_after) refl)
 
   -- the unfrozen freeze
   pub fetch_froze : (k : ℕ) (states : List FilterState) (q' : Queued) → Ok (Some k) ≡ asked → 0 < k → 0 < j.queue.unfrozen → length m.block ≡ j.limits.block
@@ -131,17 +101,11 @@ module _ {K : Type 0} (j : Join K) (first : Bool) (within across : K → K → O
   fetch_froze (suc k) states q' says some held whole marks queue =
       let one : 1 ≤ length q.unfrozen =
       omega (arith, length-take-le j.queue.unfrozen (drop j.queue.frozen m.block) (omega (arith, length-drop j.queue.frozen m.block, j.room, j.limits.room, whole))) in
-      fetch_told ∙ ap (comes_to read) (sym says) ∙ freezes q.unfrozen one
-      ∙ ap (λ (x : List FilterState). made x (let_go (deferred s) (freeze asks q)) (fetching first)) (sym marks)
-      ∙ ap (λ (x : Queued). made states x (fetching first)) (sym queue)
-      ∙ ap (λ (p : PhaseOf). made states q' (phase_of p (holding j.buffered) (take j.buffered.held m.buffered))) (sym is_phase)
+      fetch_told ∙ ap (comes_to read) (sym says) ∙ freezes q.unfrozen one ∙ rw (marks, queue, is_phase) refl
     where
       freezes : (es : List Entry) → 1 ≤ length es → fetch_taken s es first (take (suc k) took.memory) took.left st bf q n ≡ going (core st (marked_by j.limits.kind asks q bf) (let_go (deferred s) (freeze asks q)) n (fetching first))
       freezes [] some = absurd (omega arith)
       freezes (e ∷ es) some = refl
-
-      made : List FilterState → Queued → Phase K → Outcome K
-      made states q' ph = going (core st (record { batches = bf.batches; closing = bf.closing; holding = bf.holding; rows = bf.rows; states = states; ended = bf.ended; last = bf.last }) q' n ph)
 
   -- the batch is taken, and then put to use
   pub fetch_used : (k : ℕ) (sl' : List (List (Row K))) (sc' : Closing) (table' : List (Row K)) (r : Step) (after : Core K) → Ok (Some k) ≡ asked → 0 < k → j.queue.unfrozen ≡ 0 → sl' ≡ took.left → table' ≡ took.memory
@@ -149,10 +113,4 @@ module _ {K : Type 0} (j : Join K) (first : Bool) (within across : K → K → O
       → Stepped (step_of s (core_of j m)) r after
   fetch_used zero sl' sc' table' r after says some none is_left is_table used = absurd (omega arith)
   fetch_used (suc k) sl' sc' table' r after says some none is_left is_table used =
-      let takes = fetch_told ∙ ap (comes_to read) (sym says)
-      ∙ ap (λ (i : ℕ). fetch_taken s (take i (drop j.queue.frozen m.block)) first (take (suc k) took.memory) took.left st bf q n) none
-      ∙ ap (λ (t : List (Row K)). puts t took.left) (sym is_table) ∙ ap (puts table') (sym is_left) in
-      subst (λ (o : Outcome K). Stepped o r after) (sym takes) used
-    where
-      puts : List (Row K) → List (List (Row K)) → Outcome K
-      puts t l = fetch_checked s (disorder within st.last (take (suc k) t) (streamed_read st)) first (take (suc k) t) l st bf q n
+      subst (λ (o : Outcome K). Stepped o r after) (sym (fetch_told ∙ rw (← says, none, is_left, is_table) refl)) used

@@ -1,5 +1,5 @@
 -- A due record handed to the sink, against the machine's step.
-use Rattle.std.proofs.Common.{◌≡◌, ℕ, ◌+◌, ◌<◌, min, Bool, true, false, cond, List, [], ◌∷◌, length, drop, is_err, Some, None, Ok, sym, refl, ap, ◌∙◌, true≢false, arith}
+use Rattle.std.proofs.Common.{◌≡◌, ℕ, ◌+◌, ◌<◌, min, Bool, true, false, cond, List, [], ◌∷◌, length, drop, is_err, Some, None, Ok, sym, refl, ◌∙◌, true≢false, arith}
 use Rattle.rows.specs.declared.record.Record.{Record}
 use Rattle.sinks.specs.Meaning.{answered, left_with}
 use Rattle.pipeline.specs.Block.{Queued, next_of, handed as one_handed}
@@ -9,7 +9,7 @@ use Rattle.machine.specs.Machine.{Setting, Streamed, Buffered, Counts, Phase, co
 -- where records are due there is a next one
 pub some_due : (l : List Record) → 0 < length l → None ≡ next_of l → ⊥
 some_due [] some none = omega (arith, some)
-some_due (x ∷ l) some none = let z : ◌≡◌ {A = ℕ} 0 1 = cc in omega (arith, z)
+some_due (x ∷ l) some none = cc
 
 fitted : (b : Bool) → is_err (answered b) ≡ false → b ≡ true
 fitted true takes = refl
@@ -23,29 +23,18 @@ module _ {K V : Type 0} (c : Setting K) (fits : V → Record → Bool) (after : 
   abbrev pub tries : Record → Bool → List Record → Moved K V
   tries y b l = cond b (hands_over y (core st bf (handed c fits after l q) (counted_record n) ph) (after v y)) (says (Ok Waiting) (core st bf q n ph) v)
 
-  pub next_tried : (l : List Record) (b : Bool) → Some x ≡ next_of l → fits v x ≡ b → micro_due c fits after l st bf q n ph v ≡ tries x b (drop 1 l)
-  next_tried [] b next is = absurd (let z : ◌≡◌ {A = ℕ} 0 1 = cc in omega (arith, z))
-  next_tried (y ∷ l) b next is =
+  next_tried : (l : List Record) → Some x ≡ next_of l → micro_due c fits after l st bf q n ph v ≡ tries x (fits v x) (drop 1 l)
+  next_tried [] next = cc
+  next_tried (y ∷ l) next =
       let same : y ≡ x = cc in
-      ap (λ (w : Record). tries w (fits v w) l) same ∙ ap (λ (a : Bool). tries x a l) is
+      rw same refl
 
   -- the record fits: it is handed over and counted
   pub next_handed : (v' : V) (q' : Queued) (h : ℕ) → Some x ≡ next_of q.due → is_err (answered (fits v x)) ≡ false → v' ≡ left_with fits after v x → q' ≡ one_handed q → h ≡ min (n.handed + 1) most_handed
       → micro_due c fits after q.due st bf q n ph v ≡ hands_over x (core st bf q' (record { turns = n.turns; rows = n.rows; runs = n.runs; handed = h }) ph) v'
-  next_handed v' q' h next takes is_left is_queue is_count =
-      let fit = fitted (fits v x) takes in
-      next_tried q.due true next fit
-      ∙ ap (λ (w : V). over w (one_handed q) (min (n.handed + 1) most_handed)) (sym (is_left ∙ ap (λ (b : Bool). cond b (after v x) v) fit))
-      ∙ ap (λ (y : Queued). over v' y (min (n.handed + 1) most_handed)) (sym is_queue)
-      ∙ ap (λ (k : ℕ). over v' q' k) (sym is_count)
-    where
-      over : V → Queued → ℕ → Moved K V
-      over w y k = hands_over x (core st bf y (record { turns = n.turns; rows = n.rows; runs = n.runs; handed = k }) ph) w
+  next_handed v' q' h next takes is_left is_queue is_count = next_tried q.due next ∙ rw (is_left, is_queue, is_count, fitted (fits v x) takes) refl
 
   -- it does not fit: the join waits
   pub next_waits : (v' : V) → Some x ≡ next_of q.due → is_err (answered (fits v x)) ≡ true → v' ≡ left_with fits after v x
       → micro_due c fits after q.due st bf q n ph v ≡ says (Ok Waiting) (core st bf q n ph) v'
-  next_waits v' next refuses is_left =
-      let unfit = refused (fits v x) refuses in
-      next_tried q.due false next unfit
-      ∙ ap (λ (w : V). says (Ok Waiting) (core st bf q n ph) w) (sym (is_left ∙ ap (λ (b : Bool). cond b (after v x) v) unfit))
+  next_waits v' next refuses is_left = next_tried q.due next ∙ rw (is_left, refused (fits v x) refuses) refl

@@ -15,9 +15,7 @@ use Rattle.pipeline.specs.Freezing.{judged_all}
 use Rattle.pipeline.specs.States.{states_of, marking}
 use Rattle.pipeline.proofs.Queues.{counts, room_from, length_judged}
 use Rattle.machine.proofs.Entries.{length_marking}
-use Rattle.join.specs.declared.state.Join.{Join}
 use Rattle.join.specs.Settled.{Idle, Settled, Marked, asked}
-use Rattle.join.specs.Shows.{Ready}
 
 -- what the queue and the block then hold, and the numbers by it
 pub record Made (s : Queued) (answer : Result (Unit {0}) Refused) (q : Queue) (block : List Entry) : Type 0 where
@@ -53,10 +51,6 @@ module _ {possible : Bool} {step : Queued → Queued} {q q' : Queue} {block bloc
 -- two steps, one after the other
 pub settled_then : {f g : Queued → Queued} {q q' q'' : Queue} {block block' block'' : List Entry} → Settled f q block q' block' → Settled g q' block' q'' block'' → Settled (λ x. g (f x)) q block q'' block''
 settled_then {f} {g} a b = record { holds = b.holds ∙ ap g a.holds; roomy = b.roomy; unfrozen = b.unfrozen; noted = omega (arith, a.noted, b.noted); counted = omega (arith, a.counted, a.unfrozen, b.counted) }
-
--- the block has room for what a join counts in it
-pub idle_of : {K : Type 0} (j : Join K) (block : List Entry) → Ready j block → Idle j.queue block
-idle_of j block ready = record { none_due = ready.none_due; roomy = record { held = omega (arith, j.room, j.limits.room, ready.block_length); front = omega (arith, j.front, ready.block_length) } }
 
 module _ {q : Queue} {block : List Entry} (idle : Idle q block) where
   abbrev held : Queued
