@@ -1,13 +1,12 @@
 // The joined table, written down by holding every row against every row: slow, and for logs in any sequence.
 ghost use Rattle.std.specs.Prelude.{◌≡◌, ◌^◌, ◌≤◌, ◌++◌, length, IfOk, OnOk};
 ghost use Rattle.merge.specs.declared.nested_loops.TableError.TheVariants.{Memory};
-ghost use Rattle.merge.specs.Joined.{filter_of, lets_through, joined};
+ghost use Rattle.merge.specs.Joined.{filter_of, joined};
 ghost use Rattle.merge.specs.Places.{RefusesTooLong};
 
 use filters::filter::{Filter, lets_through};
 use rows::kind::{Kind, Side};
 use rows::order::KeyOrder;
-use rows::reading::Reading;
 use rows::record::Record;
 use rows::row::Row;
 use std::alloc::{AllocError, Global};
@@ -80,20 +79,13 @@ struct Sides<'a, O: KeyOrder, F: Filter> {
 impl<'a, O: KeyOrder, F: Filter> Sides<'a, O, F> {
     ghost use Rattle.merge.specs.Nested.{passing, rows_of, is_alone, pairs, lone};
 
-    // Whether there is no filter or it says yes.
-    fn lets_through(&self, left: &Reading, right: &Reading) -> bool
-        ensures { result ≡ lets_through (filter_of F.says self.now.filter.now) left.now right.now }
-    {
-        lets_through(self.filter, left, right)
-    }
-
     // Whether a left and a right row pass: their keys are same across, and the filter lets them through.
     fn passes(&self, left: &Row<O::Key>, right: &Row<O::Key>) -> bool
         ensures { result ≡ passing self.now left.now right.now }
     {
         let (streamed, buffered) = self.kind.oriented(left, right);
         let across = self.order.compare_across(&streamed.key, &buffered.key);
-        across.is_eq() && self.lets_through(&left.reading, &right.reading)
+        across.is_eq() && lets_through(self.filter, &left.reading, &right.reading)
     }
 
     fn rows_of(&self, side: Side) -> &'a [Row<O::Key>]
