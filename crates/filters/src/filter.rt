@@ -1,7 +1,7 @@
 ghost use Rattle.std.specs.Prelude.{◌≡◌};
 ghost use Rattle.rows.specs.declared.reading.Reading.{Reading as ReadingOf};
 ghost use Rattle.filters.specs.declared.filter.Verdict.{Verdict as VerdictOf};
-ghost use Rattle.filters.specs.Verdicts.{is_yes, decided, and};
+ghost use Rattle.filters.specs.Verdicts.{is_yes, lets_through, decided, and};
 
 use rows::reading::Reading;
 
@@ -48,4 +48,14 @@ pub trait Filter {
 
     fn ask(&self, left: &Reading, right: &Reading) -> Verdict
         ensures { result ≡ says self.now left.now right.now };
+}
+
+// Whether there is no filter, or it says yes.
+pub fn lets_through<F: Filter>(filter: &Option<F>, left: &Reading, right: &Reading) -> bool
+    ensures { result ≡ lets_through F.says filter.now left.now right.now }
+{
+    match filter {
+        None => true,
+        Some(filter) => filter.ask(left, right).is_yes(),
+    }
 }

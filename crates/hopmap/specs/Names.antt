@@ -1,11 +1,5 @@
 -- The names that the command line gives to things.
 use Rattle.std.specs.Prelude.{◌≡◌, ℕ, List, codes, Option, MatchOption, ◌≢◌}
-use Rattle.orders.specs.declared.choices.Direction.{Direction}
-use Rattle.orders.specs.declared.choices.Direction.TheVariants.{Up, Down}
-use Rattle.orders.specs.declared.choices.MissingPlace.{MissingPlace}
-use Rattle.orders.specs.declared.choices.MissingPlace.TheVariants.{First, Last}
-use Rattle.rows.specs.declared.kind.Kind.{Kind}
-use Rattle.rows.specs.declared.kind.Kind.TheVariants.{Inner, Left, Right, Full}
 use Rattle.hopmap.specs.declared.settings.Setting.{Setting}
 use Rattle.hopmap.specs.declared.settings.Setting.TheVariants as setting
 use Rattle.hopmap.specs.declared.settings.Switch.{Switch}
@@ -36,20 +30,6 @@ setting_takes setting.Window = codes "a whole number of milliseconds from 0 to 4
 
 abbrev pub switch_name : Switch → List ℕ
 switch_name switch.MissingEqual = codes "--missing-equal"
-
-abbrev pub direction_name : Direction → List ℕ
-direction_name Up = codes "up"
-direction_name Down = codes "down"
-
-abbrev pub missing_name : MissingPlace → List ℕ
-missing_name First = codes "first"
-missing_name Last = codes "last"
-
-abbrev pub kind_name : Kind → List ℕ
-kind_name Inner = codes "inner"
-kind_name Left = codes "left"
-kind_name Right = codes "right"
-kind_name Full = codes "full"
 
 abbrev pub verb_name : Verb → List ℕ
 verb_name verb.Show = codes "show"

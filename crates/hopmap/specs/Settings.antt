@@ -15,7 +15,9 @@ use Rattle.hopmap.specs.declared.settings.Setting.{Setting}
 use Rattle.hopmap.specs.declared.settings.Setting.TheVariants as setting
 use Rattle.hopmap.specs.declared.settings.Switch.{Switch}
 use Rattle.hopmap.specs.declared.settings.Switch.TheVariants as switch
-use Rattle.hopmap.specs.Names.{Tells, direction_name, missing_name, kind_name}
+use Rattle.orders.specs.Names.{direction_name, missing_name}
+use Rattle.rows.specs.Kinds.{kind_name}
+use Rattle.hopmap.specs.Names.{Tells}
 
 -- the answer is x where P holds, and none elsewhere
 abbrev pub Just : {A : Type 0} → Type 0 → A → Option A → Type 0

@@ -1,5 +1,5 @@
 -- What each command of the program takes.
-use Rattle.std.specs.Prelude.{ℕ, Bool, true, false}
+use Rattle.std.specs.Prelude.{Bool, true, false}
 use Rattle.hopmap.specs.declared.settings.Setting.{Setting}
 use Rattle.hopmap.specs.declared.settings.Setting.TheVariants as setting
 use Rattle.hopmap.specs.declared.settings.Switch.{Switch}
@@ -26,9 +26,3 @@ abbrev pub has : Verb → Switch → Bool
 has verb.Show switch = false
 has verb.Grades switch = false
 has verb.Table switch.MissingEqual = true
-
--- one log, or the sent log and the heard one
-abbrev pub logs_of : Verb → ℕ
-logs_of verb.Show = 1
-logs_of verb.Grades = 1
-logs_of verb.Table = 2

@@ -1,6 +1,6 @@
 ghost use Rattle.std.specs.Prelude.{◌≡◌, map, string_bytes};
 ghost use Rattle.hopmap.specs.Slips.{slip_text};
-ghost use Rattle.hopmap.specs.Words.{is_about_call, dashed, start, ReadsOption, ReadsValue, with_log, ReadsWord, ReadsWords};
+ghost use Rattle.hopmap.specs.Words.{is_about_call, dashed, start, gone_on, ReadsOption, ReadsValue, and_log, with_log, ReadsWord, asked_by, ReadsWords, ReadsCall};
 
 use crate::settings::{Setting, Settings, Switch};
 use crate::verb::Verb;
@@ -24,32 +24,25 @@ pub enum Command<'a> {
     },
 }
 
-// What can be wrong with the words of a call.
+// What can be wrong with the words of a call, and the word that is, if it is one.
 #[derive(Clone, Copy, PartialEq, Eq, Debug)]
-pub enum Slip {
+pub enum CallError<'a> {
     NoCommand,
-    UnknownCommand,
+    UnknownCommand(&'a str),
     // the command has no such option
-    UnknownOption(Verb),
+    UnknownOption(Verb, &'a str),
     NoValue(Setting),
-    BadValue(Setting),
+    BadValue(Setting, &'a str),
     WrongLogs(Verb),
-}
-
-// Why the command line asks for nothing: the slip, and the word that it is about, if it is about one.
-#[derive(Clone, Copy)]
-pub struct CallError<'a> {
-    pub slip: Slip,
-    pub word: &'a str,
 }
 
 impl CallError<'_> {
     // Whether the call as a whole is wrong, and not one value in it.
     pub fn is_about_call(&self) -> bool
-        ensures { result ≡ is_about_call self.now.slip }
+        ensures { result ≡ is_about_call self.now }
     {
-        match self.slip {
-            Slip::BadValue(_) => false,
+        match *self {
+            CallError::BadValue(..) => false,
             _ => true,
         }
     }
@@ -59,194 +52,174 @@ impl CallError<'_> {
 fn is_option(word: &str) -> bool
     ensures { result ≡ dashed word.now }
 {
-    match word.as_bytes() {
-        [b'-', b'-', ..] => true,
-        _ => false,
+    word.starts_with("--")
+}
+
+// The logs named so far, by their words.
+#[derive(Clone, Copy)]
+enum Logs<'a> {
+    Zero,
+    One(&'a str),
+    Two(&'a str, &'a str),
+    More,
+}
+
+impl<'a> Logs<'a> {
+    // With one log more.
+    fn and(self, log: &'a str) -> Logs<'a>
+        ensures { result ≡ and_log self.entry log.entry }
+    {
+        match self {
+            Logs::Zero => Logs::One(log),
+            Logs::One(first) => Logs::Two(first, log),
+            Logs::Two(..) | Logs::More => Logs::More,
+        }
     }
 }
 
 // What the words read so far say.
 #[derive(Clone, Copy)]
-struct Progress {
+struct Progress<'a> {
     settings: Settings,
     // the setting whose value is the next word
     awaited: Option<Setting>,
-    // how many logs are named, and by which words the first two
-    logs: usize,
-    first: usize,
-    second: usize,
+    logs: Logs<'a>,
 }
 
-impl Progress {
-    fn start() -> Progress
+impl<'a> Progress<'a> {
+    fn start() -> Progress<'a>
         ensures { result ≡ start }
     {
         Progress {
-            settings: Settings::usual(),
+            settings: Settings::default(),
             awaited: None,
-            logs: 0,
-            first: 0,
-            second: 0,
+            logs: Logs::Zero,
         }
     }
 
-    // With a word that begins with two dashes.
-    fn option(mut self, verb: Verb, word: &str) -> Result<Progress, Slip>
-        ensures { ReadsOption verb self word.now result }
+    // Goes on with a word that begins with two dashes.
+    fn option(&mut self, verb: Verb, word: &'a str) -> Result<(), CallError<'a>>
+        ensures { ReadsOption verb self.old word.entry (gone_on self.new result) }
     {
-        if let Some(setting) = Setting::named(word)
+        if let Ok(setting) = word.parse::<Setting>()
             && verb.takes(setting)
         {
             self.awaited = Some(setting);
-            return Ok(self);
+            return Ok(());
         }
-        if let Some(switch) = Switch::named(word)
+        if let Ok(switch) = word.parse::<Switch>()
             && verb.has(switch)
         {
             self.settings = self.settings.switched_on(switch);
-            return Ok(self);
+            return Ok(());
         }
-        Err(Slip::UnknownOption(verb))
+        Err(CallError::UnknownOption(verb, word))
     }
 
-    // With the value of a setting.
-    fn value(mut self, setting: Setting, word: &str) -> Result<Progress, Slip>
-        ensures { ReadsValue self setting word.now result }
+    // Goes on with the value of a setting.
+    fn value(&mut self, setting: Setting, word: &'a str) -> Result<(), CallError<'a>>
+        ensures { ReadsValue self.old setting word.entry (gone_on self.new result) }
     {
         self.settings = self
             .settings
             .with(setting, word)
-            .ok_or(Slip::BadValue(setting))?;
+            .ok_or(CallError::BadValue(setting, word))?;
         self.awaited = None;
-        Ok(self)
+        Ok(())
     }
 
-    // With a log, named by the word at this place.
-    fn log(mut self, place: usize) -> Progress
-        ensures { result ≡ with_log self place }
+    // Goes on with a log.
+    fn log(&mut self, word: &'a str)
+        ensures { self.new ≡ with_log self.old word.entry }
     {
-        match self.logs {
-            0 => self.first = place,
-            1 => self.second = place,
-            _ => {}
-        }
-        self.logs = self.logs.saturating_add(1);
-        self
+        self.logs = self.logs.and(word);
     }
 
-    // With the word at this place.
-    fn word(self, verb: Verb, place: usize, word: &str) -> Result<Progress, Slip>
-        ensures { ReadsWord verb self place word.now result }
+    // Goes on with the next word.
+    fn word(&mut self, verb: Verb, word: &'a str) -> Result<(), CallError<'a>>
+        ensures { ReadsWord verb self.old word.entry (gone_on self.new result) }
     {
         match self.awaited {
             Some(setting) => self.value(setting, word),
             None if is_option(word) => self.option(verb, word),
-            None => Ok(self.log(place)),
+            None => {
+                self.log(word);
+                Ok(())
+            }
+        }
+    }
+
+    // What is asked for, where no word is left.
+    fn command(self, verb: Verb) -> Result<Command<'a>, CallError<'a>>
+        ensures { result ≡ asked_by self.entry.awaited verb self.entry }
+    {
+        if let Some(setting) = self.awaited {
+            return Err(CallError::NoValue(setting));
+        }
+        let settings = self.settings;
+        match (verb, self.logs) {
+            (Verb::Show, Logs::One(log)) => Ok(Command::Show { log, settings }),
+            (Verb::Grades, Logs::One(log)) => Ok(Command::Grades { log }),
+            (Verb::Table, Logs::Two(sent, heard)) => Ok(Command::Table {
+                sent,
+                heard,
+                settings,
+            }),
+            _ => Err(CallError::WrongLogs(verb)),
         }
     }
 }
 
-// What the words after the command's name say, or the slip and the place of its word.
-fn read_words(verb: Verb, words: &[String]) -> Result<Progress, (Slip, usize)>
-    ensures { ReadsWords verb start 0 (map string_bytes words.now) result }
+// What the words after the command's name ask for.
+fn read_words(verb: Verb, words: &[String]) -> Result<Command<'_>, CallError<'_>>
+    ensures { ReadsWords verb start (map string_bytes words.now) result }
 {
     let mut progress = Progress::start();
-    for (place, word) in words.iter().enumerate() {
-        match progress.word(verb, place, word.as_str()) {
-            Ok(more) => progress = more,
-            Err(slip) => return Err((slip, place)),
-        }
+    for word in words {
+        progress.word(verb, word.as_str())?;
     }
-    match progress.awaited {
-        Some(setting) => Err((Slip::NoValue(setting), words.len())),
-        None if progress.logs != verb.logs() => Err((Slip::WrongLogs(verb), words.len())),
-        None => Ok(progress),
-    }
-}
-
-// The word at a place, empty where there is none.
-fn word_at(words: &[String], place: usize) -> &str {
-    match words.get(place) {
-        Some(word) => word.as_str(),
-        None => "",
-    }
+    progress.command(verb)
 }
 
 // What the words after the program's own name ask for.
-pub fn read(words: &[String]) -> Result<Command<'_>, CallError<'_>> {
+pub fn read(words: &[String]) -> Result<Command<'_>, CallError<'_>>
+    ensures { ReadsCall (map string_bytes words.now) result }
+{
     let [first, rest @ ..] = words else {
-        return Err(CallError {
-            slip: Slip::NoCommand,
-            word: "",
-        });
+        return Err(CallError::NoCommand);
     };
     let word = first.as_str();
     if word == "--help" {
         return Ok(Command::Help);
     }
-    let Some(verb) = Verb::named(word) else {
-        return Err(CallError {
-            slip: Slip::UnknownCommand,
-            word,
-        });
-    };
-    match read_words(verb, rest) {
-        Ok(progress) => Ok(asked(verb, progress, rest)),
-        Err((slip, place)) => Err(CallError {
-            slip,
-            word: word_at(rest, place),
-        }),
-    }
-}
-
-fn asked(verb: Verb, progress: Progress, words: &[String]) -> Command<'_> {
-    let first = word_at(words, progress.first);
-    let settings = progress.settings;
-    match verb {
-        Verb::Show => Command::Show {
-            log: first,
-            settings,
-        },
-        Verb::Grades => Command::Grades { log: first },
-        Verb::Table => Command::Table {
-            sent: first,
-            heard: word_at(words, progress.second),
-            settings,
-        },
+    match word.parse::<Verb>() {
+        Ok(verb) => read_words(verb, rest),
+        Err(_) => Err(CallError::UnknownCommand(word)),
     }
 }
 
 impl fmt::Display for CallError<'_> {
-    ghost output = { λ error. slip_text error.slip error.word.now };
+    ghost output = { slip_text };
 
     fn fmt<W: fmt::Write>(&self, f: &mut fmt::Formatter<W>) -> fmt::Result {
-        let word = self.word;
-        match self.slip {
-            Slip::NoCommand => f.write_str("a command is wanted"),
-            Slip::UnknownCommand => write!(f, "there is no command '{word}'"),
-            Slip::UnknownOption(verb) => {
-                let name = verb.name();
-                write!(f, "{name} has no option '{word}'")
-            }
-            Slip::NoValue(setting) => {
-                let name = setting.name();
+        match *self {
+            CallError::NoCommand => f.write_str("a command is wanted"),
+            CallError::UnknownCommand(word) => write!(f, "there is no command '{word}'"),
+            CallError::UnknownOption(verb, word) => write!(f, "{verb} has no option '{word}'"),
+            CallError::NoValue(setting) => {
                 let takes = setting.takes();
-                write!(f, "{name} takes {takes}")
+                write!(f, "{setting} takes {takes}")
             }
-            Slip::BadValue(setting) => {
-                let name = setting.name();
+            CallError::BadValue(setting, word) => {
                 let takes = setting.takes();
-                write!(f, "{name} takes {takes}, not '{word}'")
+                write!(f, "{setting} takes {takes}, not '{word}'")
             }
-            Slip::WrongLogs(verb) => {
-                let name = verb.name();
-                match verb {
-                    Verb::Show | Verb::Grades => write!(f, "{name} takes one log"),
-                    Verb::Table => write!(
-                        f,
-                        "{name} takes two logs, the sent one and the heard one"
-                    ),
-                }
+            CallError::WrongLogs(verb) => {
+                let logs = match verb {
+                    Verb::Show | Verb::Grades => "one log",
+                    Verb::Table => "two logs, the sent one and the heard one",
+                };
+                write!(f, "{verb} takes {logs}")
             }
         }
     }

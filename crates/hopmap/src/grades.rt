@@ -15,7 +15,7 @@ use sources::source::Source;
 use std::alloc::{AllocError, Global};
 
 // How many rows have each grade, and how many are not measured; a count stays at the largest number of 64 bits.
-#[derive(Clone, Copy)]
+#[derive(Clone, Copy, Default)]
 pub struct GradeCounts {
     // of grade 1 at 0, up to grade 5 at 4
     pub graded: [u64; 5],
@@ -23,39 +23,26 @@ pub struct GradeCounts {
 }
 
 impl GradeCounts {
-    pub fn none() -> GradeCounts
-        ensures { result ≡ no_rows }
-    {
-        GradeCounts {
-            graded: [0; 5],
-            not_measured: 0,
-        }
-    }
-
     // With one row more, of this level.
-    pub fn and_level(self, level: i8) -> GradeCounts
+    pub fn and_level(mut self, level: i8) -> GradeCounts
         ensures { result ≡ counted self level }
     {
-        let mut counts = self;
         match grade(level) {
             Some(g) => {
                 let i = g as usize - 1;
-                counts.graded[i] = counts.graded[i].saturating_add(1);
+                self.graded[i] = self.graded[i].saturating_add(1);
             }
-            None => counts.not_measured = counts.not_measured.saturating_add(1),
+            None => self.not_measured = self.not_measured.saturating_add(1),
         }
-        counts
+        self
     }
 
     // With rows more.
     pub fn and_rows<K>(self, rows: &[Row<K>]) -> GradeCounts
         ensures { result ≡ counted_rows self rows.now }
     {
-        let mut counts = self;
-        for row in rows {
-            counts = counts.and_level(row.reading.level);
-        }
-        counts
+        rows.iter()
+            .fold(self, |counts, row| counts.and_level(row.reading.level))
     }
 }
 
@@ -69,8 +56,8 @@ where
     ensures { IfOk result (λ found. found ≡ (counted_rows no_rows (all_rows (S.Source.batches source.old)), summary_of (S.Source.batches source.old) (S.Source.closing source.old))) }
 {
     let mut batch = Vec::new(heap);
-    let mut counts = GradeCounts::none();
-    let mut totals = Totals::none();
+    let mut counts = GradeCounts::default();
+    let mut totals = Totals::default();
     let closing = loop {
         match fetch(source, &mut batch)? {
             Ok(Some(n)) => {
@@ -88,6 +75,7 @@ where
 pub fn count_grades(heap: Global, bytes: &[u8]) -> Result<(GradeCounts, Summary), AllocError>
     ensures { IfOk result (λ found. found ≡ grades_of bytes.now) }
 {
+    // the bytes pick the type, so each kind has an arm
     match told_kind(bytes).unwrap_or(LogKind::Frame) {
         LogKind::Label => count_source(heap, &mut Log::new(bytes, Labels)),
         LogKind::Frame => count_source(heap, &mut Log::new(bytes, Frames)),

@@ -56,7 +56,7 @@ pub fn words_of(fault: SourceFault) -> &'static str
     }
 }
 
-// A source's fault with its values and its meaning in words.
+// A source's fault with its values and its meaning in words; SourceFault itself is another crate's.
 #[derive(Clone, Copy)]
 pub struct FaultText(pub SourceFault);
 
@@ -72,7 +72,7 @@ impl fmt::Display for FaultText {
     }
 }
 
-// How a source closes.
+// How a source closes; Closing itself is std's Result.
 #[derive(Clone, Copy)]
 pub struct ClosingText(pub Closing);
 
@@ -144,6 +144,7 @@ impl fmt::Display for TableRefusal {
 
     fn fmt<W: fmt::Write>(&self, f: &mut fmt::Formatter<W>) -> fmt::Result {
         match *self {
+            // other words stand between the fault's values than in FaultText
             TableRefusal::Fault(side, fault) => {
                 let number = fault.number();
                 let layer = fault.layer();

@@ -55,14 +55,12 @@ fn show_file(rt: &HostRuntime, log: &str, settings: &Settings) -> io::Result<Exi
 }
 
 fn print_counts(rt: &HostRuntime, counts: &GradeCounts) -> io::Result<()> {
-    let mut grade = 1;
-    for rows in counts.graded {
+    for (grade, rows) in (1..=5).zip(counts.graded) {
         let line = GradeLine {
             grade: Some(grade),
             rows,
         };
         println!(rt; "{line}")?;
-        grade = grade.saturating_add(1);
     }
     let line = GradeLine {
         grade: None,

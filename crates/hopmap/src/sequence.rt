@@ -54,10 +54,7 @@ impl<K: Copy> Sequence<K> {
     pub fn and_rows<O: KeyOrder<Key = K>>(self, order: &O, rows: &[Row<K>]) -> Sequence<K>
         ensures { result ≡ checked_rows (O.KeyOrder.within order.now) self rows.now }
     {
-        let mut sequence = self;
-        for row in rows {
-            sequence = sequence.and_key(order, row.key);
-        }
-        sequence
+        rows.iter()
+            .fold(self, |sequence, row| sequence.and_key(order, row.key))
     }
 }

@@ -1,9 +1,13 @@
-ghost use Rattle.std.specs.Prelude.{◌≡◌};
-ghost use Rattle.hopmap.specs.Names.{Tells, setting_name, setting_takes, switch_name, direction_name, missing_name, kind_name};
-ghost use Rattle.hopmap.specs.Settings.{Reads8, Reads32, ReadsSigned32, usual, Sets, switched};
+ghost use Rattle.std.specs.Prelude.{◌≡◌, Some as Shown};
+ghost use Rattle.rows.specs.Names.{Named};
+ghost use Rattle.hopmap.specs.Names.{setting_name, setting_takes, switch_name};
+ghost use Rattle.hopmap.specs.Settings.{usual, Sets, switched};
 
 use orders::choices::{Choices, Direction, MissingEquals, MissingPlace};
 use rows::kind::Kind;
+use rows::name::UnknownName;
+use std::fmt;
+use std::str::FromStr;
 
 // What a word on the command line can set, by the word after it.
 #[derive(Clone, Copy, PartialEq, Eq, Debug)]
@@ -16,53 +20,41 @@ pub enum Setting {
     Window,
 }
 
-// What a word on the command line can switch on.
-#[derive(Clone, Copy, PartialEq, Eq, Debug)]
-pub enum Switch {
-    MissingEqual,
-}
+impl FromStr for Setting {
+    type Err = UnknownName;
 
-// All that can be set and switched on; each command looks at some of it.
-#[derive(Clone, Copy)]
-pub struct Settings {
-    // added to every moment, in milliseconds
-    pub clock: i32,
-    pub choices: Choices,
-    pub kind: Kind,
-    // the filters asked for: the worst grade, and the longest delay in milliseconds
-    pub grade: Option<u8>,
-    pub window: Option<u32>,
-}
+    ghost from_str_gives = { Named setting_name };
 
-impl Setting {
-    // The setting that a word names.
-    pub fn named(word: &str) -> Option<Setting>
-        ensures { Tells setting_name word.now result }
-    {
+    fn from_str(word: &str) -> Result<Setting, UnknownName> {
         match word {
-            "--clock" => Some(Setting::Clock),
-            "--order" => Some(Setting::Order),
-            "--missing" => Some(Setting::Missing),
-            "--kind" => Some(Setting::Kind),
-            "--grade" => Some(Setting::Grade),
-            "--window" => Some(Setting::Window),
-            _ => None,
+            "--clock" => Ok(Setting::Clock),
+            "--order" => Ok(Setting::Order),
+            "--missing" => Ok(Setting::Missing),
+            "--kind" => Ok(Setting::Kind),
+            "--grade" => Ok(Setting::Grade),
+            "--window" => Ok(Setting::Window),
+            _ => Err(UnknownName),
         }
     }
+}
 
-    pub fn name(self) -> &'static str
-        ensures { result.now ≡ setting_name self }
-    {
-        match self {
+impl fmt::Display for Setting {
+    ghost output = { λ it. Shown (setting_name it) };
+
+    fn fmt<W: fmt::Write>(&self, f: &mut fmt::Formatter<W>) -> fmt::Result {
+        let name = match self {
             Setting::Clock => "--clock",
             Setting::Order => "--order",
             Setting::Missing => "--missing",
             Setting::Kind => "--kind",
             Setting::Grade => "--grade",
             Setting::Window => "--window",
-        }
+        };
+        f.write_str(name)
     }
+}
 
+impl Setting {
     // What may stand after its name, in words.
     pub fn takes(self) -> &'static str
         ensures { result.now ≡ setting_takes self }
@@ -78,73 +70,42 @@ impl Setting {
     }
 }
 
-impl Switch {
-    // The switch that a word names.
-    pub fn named(word: &str) -> Option<Switch>
-        ensures { Tells switch_name word.now result }
-    {
+// What a word on the command line can switch on.
+#[derive(Clone, Copy, PartialEq, Eq, Debug)]
+pub enum Switch {
+    MissingEqual,
+}
+
+impl FromStr for Switch {
+    type Err = UnknownName;
+
+    ghost from_str_gives = { Named switch_name };
+
+    fn from_str(word: &str) -> Result<Switch, UnknownName> {
         match word {
-            "--missing-equal" => Some(Switch::MissingEqual),
-            _ => None,
+            "--missing-equal" => Ok(Switch::MissingEqual),
+            _ => Err(UnknownName),
         }
     }
 }
 
-fn direction(word: &str) -> Option<Direction>
-    ensures { Tells direction_name word.now result }
-{
-    match word {
-        "up" => Some(Direction::Up),
-        "down" => Some(Direction::Down),
-        _ => None,
-    }
+// All that can be set and switched on; each command looks at some of it.
+#[derive(Clone, Copy)]
+pub struct Settings {
+    // added to every moment, in milliseconds
+    pub clock: i32,
+    pub choices: Choices,
+    pub kind: Kind,
+    // the filters asked for: the worst grade, and the longest delay in milliseconds
+    pub grade: Option<u8>,
+    pub window: Option<u32>,
 }
 
-fn missing_place(word: &str) -> Option<MissingPlace>
-    ensures { Tells missing_name word.now result }
-{
-    match word {
-        "first" => Some(MissingPlace::First),
-        "last" => Some(MissingPlace::Last),
-        _ => None,
-    }
-}
+// What holds where nothing is set.
+impl Default for Settings {
+    ghost is_default = { λ s. s ≡ usual };
 
-fn kind(word: &str) -> Option<Kind>
-    ensures { Tells kind_name word.now result }
-{
-    match word {
-        "inner" => Some(Kind::Inner),
-        "left" => Some(Kind::Left),
-        "right" => Some(Kind::Right),
-        "full" => Some(Kind::Full),
-        _ => None,
-    }
-}
-
-fn number8(word: &str) -> Option<u8>
-    ensures { Reads8 word.now result }
-{
-    word.parse::<u8>().ok()
-}
-
-fn number32(word: &str) -> Option<u32>
-    ensures { Reads32 word.now result }
-{
-    word.parse::<u32>().ok()
-}
-
-fn signed32(word: &str) -> Option<i32>
-    ensures { ReadsSigned32 word.now result }
-{
-    word.parse::<i32>().ok()
-}
-
-impl Settings {
-    // What holds where nothing is set.
-    pub fn usual() -> Settings
-        ensures { result ≡ usual }
-    {
+    fn default() -> Settings {
         Settings {
             clock: 0,
             choices: Choices {
@@ -157,18 +118,20 @@ impl Settings {
             window: None,
         }
     }
+}
 
+impl Settings {
     // The settings with one set to what the word says; none where the word does not suit it.
     pub fn with(mut self, setting: Setting, word: &str) -> Option<Settings>
         ensures { Sets self setting word.now result }
     {
         match setting {
-            Setting::Clock => self.clock = signed32(word)?,
-            Setting::Order => self.choices.direction = direction(word)?,
-            Setting::Missing => self.choices.missing = missing_place(word)?,
-            Setting::Kind => self.kind = kind(word)?,
-            Setting::Grade => self.grade = Some(number8(word)?),
-            Setting::Window => self.window = Some(number32(word)?),
+            Setting::Clock => self.clock = word.parse().ok()?,
+            Setting::Order => self.choices.direction = word.parse().ok()?,
+            Setting::Missing => self.choices.missing = word.parse().ok()?,
+            Setting::Kind => self.kind = word.parse().ok()?,
+            Setting::Grade => self.grade = Some(word.parse().ok()?),
+            Setting::Window => self.window = Some(word.parse().ok()?),
         }
         Some(self)
     }

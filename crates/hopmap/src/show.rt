@@ -55,7 +55,7 @@ where
     ensures { IfOk result (λ shown. shown ≡ shown_of (O.KeyOrder.within order.now) (S.Source.batches source.old) (S.Source.closing source.old)) }
 {
     let mut batch = Vec::new(heap);
-    let mut totals = Totals::none();
+    let mut totals = Totals::default();
     let mut sequence = Sequence::new();
     let closing = loop {
         match fetch(source, &mut batch)? {
@@ -109,6 +109,7 @@ pub fn show<W: Write>(
 ) -> io::Result<Closing>
     ensures { IfOk result (λ closing. closing ≡ closing_of bytes.now) }
 {
+    // the bytes pick the type, so each kind has an arm
     match told_kind(bytes) {
         Some(LogKind::Frame) => {
             writeln!(out, "frame log")?;

@@ -63,7 +63,7 @@ where
     }
 }
 
-// The joined table of two logs of a kind of key.
+// The joined table of two logs of a kind of key. The logs stand apart: they are read in turn, and a fault names its side.
 fn table_of_logs<L: LogKey>(
     heap: Global,
     kind: L,
@@ -100,6 +100,7 @@ pub fn table(
     ensures table { IfOk result (λ table. table.items ≡ table_of settings.now sent.now heard.now) }
     ensures refusal { RefusesLogs sent.now heard.now result }
 {
+    // the bytes pick the type, so each kind has an arm
     match told_kind(sent).unwrap_or(LogKind::Frame) {
         LogKind::Frame => table_of_logs(heap, Frames, sent, heard, settings),
         LogKind::Label => table_of_logs(heap, Labels, sent, heard, settings),

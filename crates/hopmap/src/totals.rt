@@ -1,23 +1,14 @@
 ghost use Rattle.std.specs.Prelude.{◌≡◌};
-ghost use Rattle.hopmap.specs.Totals.{no_batches, with_batch};
+ghost use Rattle.hopmap.specs.Totals.{with_batch};
 
 // How much has come of a source; a count that would pass 64 bits stays at their largest number.
-#[derive(Clone, Copy)]
+#[derive(Clone, Copy, Default)]
 pub struct Totals {
     pub batches: u64,
     pub rows: u64,
 }
 
 impl Totals {
-    pub fn none() -> Totals
-        ensures { result ≡ no_batches }
-    {
-        Totals {
-            batches: 0,
-            rows: 0,
-        }
-    }
-
     // With one batch more, of so many rows.
     pub fn and_batch(self, rows: usize) -> Totals
         ensures { result ≡ with_batch self rows }

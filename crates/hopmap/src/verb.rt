@@ -1,8 +1,12 @@
-ghost use Rattle.std.specs.Prelude.{◌≡◌};
-ghost use Rattle.hopmap.specs.Names.{Tells, verb_name};
-ghost use Rattle.hopmap.specs.Verbs.{takes, has, logs_of};
+ghost use Rattle.std.specs.Prelude.{◌≡◌, Some as Shown};
+ghost use Rattle.rows.specs.Names.{Named};
+ghost use Rattle.hopmap.specs.Names.{verb_name};
+ghost use Rattle.hopmap.specs.Verbs.{takes, has};
 
 use crate::settings::{Setting, Switch};
+use rows::name::UnknownName;
+use std::fmt;
+use std::str::FromStr;
 
 // What the program can be asked to do.
 #[derive(Clone, Copy, PartialEq, Eq, Debug)]
@@ -12,29 +16,35 @@ pub enum Verb {
     Table,
 }
 
-impl Verb {
-    // The verb that a word names.
-    pub fn named(word: &str) -> Option<Verb>
-        ensures { Tells verb_name word.now result }
-    {
+impl FromStr for Verb {
+    type Err = UnknownName;
+
+    ghost from_str_gives = { Named verb_name };
+
+    fn from_str(word: &str) -> Result<Verb, UnknownName> {
         match word {
-            "show" => Some(Verb::Show),
-            "grades" => Some(Verb::Grades),
-            "table" => Some(Verb::Table),
-            _ => None,
+            "show" => Ok(Verb::Show),
+            "grades" => Ok(Verb::Grades),
+            "table" => Ok(Verb::Table),
+            _ => Err(UnknownName),
         }
     }
+}
 
-    pub fn name(self) -> &'static str
-        ensures { result.now ≡ verb_name self }
-    {
-        match self {
+impl fmt::Display for Verb {
+    ghost output = { λ it. Shown (verb_name it) };
+
+    fn fmt<W: fmt::Write>(&self, f: &mut fmt::Formatter<W>) -> fmt::Result {
+        let name = match self {
             Verb::Show => "show",
             Verb::Grades => "grades",
             Verb::Table => "table",
-        }
+        };
+        f.write_str(name)
     }
+}
 
+impl Verb {
     // Whether the setting may be given.
     pub fn takes(self, setting: Setting) -> bool
         ensures { result ≡ takes self setting }
@@ -54,16 +64,6 @@ impl Verb {
         match (self, switch) {
             (Verb::Table, Switch::MissingEqual) => true,
             (Verb::Show | Verb::Grades, Switch::MissingEqual) => false,
-        }
-    }
-
-    // How many logs it reads.
-    pub fn logs(self) -> usize
-        ensures { result ≡ logs_of self }
-    {
-        match self {
-            Verb::Show | Verb::Grades => 1,
-            Verb::Table => 2,
         }
     }
 }

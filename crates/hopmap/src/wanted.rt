@@ -7,7 +7,7 @@ use filters::grade::GradeFilter;
 use filters::window::WindowFilter;
 use rows::reading::Reading;
 
-// The filter that the settings ask for.
+// The filter that the settings ask for: an enum, since no function hands out a dyn.
 #[derive(Clone, Copy)]
 pub enum Wanted {
     Grade(GradeFilter),

@@ -68,6 +68,8 @@ impl<K: Copy> Join<K> {
         )
     }
 
+    // The tables and the block are the caller's, and stand apart since a step reads the tables and writes the block.
+
     // Writes the next pairs of the streamed row behind the unfrozen, as many as these leave room for, and says how many. With
     // none left to write the row is passed.
     pub(crate) fn write_pairs(

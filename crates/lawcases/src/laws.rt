@@ -50,6 +50,8 @@ impl fmt::Display for LawTallies {
     }
 }
 
+// A law is asked of an order and of single keys, which stand apart as they do in the law.
+
 fn turns_round<O: KeyOrder>(order: &O, a: &O::Key, b: &O::Key) -> bool {
     order.compare_within(b, a) == order.compare_within(a, b).reverse()
 }
@@ -60,7 +62,10 @@ fn passes_on<O: KeyOrder>(order: &O, a: &O::Key, b: &O::Key, c: &O::Key) -> bool
         || !order.compare_within(a, c).is_gt()
 }
 
-// Less, Equal and Greater rise in this sequence; of streamed keys a and c and a buffered key b
+// Two laws, though they look alike: one is of two streamed keys, one of two buffered keys. Less, Equal and Greater rise in
+// this sequence.
+
+// of streamed keys a and c and a buffered key b
 fn rises_streamed<O: KeyOrder>(order: &O, a: &O::Key, c: &O::Key, b: &O::Key) -> bool {
     order.compare_within(a, c).is_gt() || order.compare_across(a, b) <= order.compare_across(c, b)
 }

@@ -55,6 +55,7 @@ fn say<S: Source>(rt: &HostRuntime, source: &mut S, memory: &mut [Row<S::Key>]) 
     println!(rt; " more")
 }
 
+// A cut is told by its length, so the loop is over lengths.
 fn say_cuts<F: KeyKind + Copy>(
     rt: &HostRuntime,
     bytes: &[u8],
@@ -68,6 +69,7 @@ fn say_cuts<F: KeyKind + Copy>(
     Ok(())
 }
 
+// The place of the changed byte is told, and a copy is changed there, so the loop is over places.
 fn say_changes<F: KeyKind + Copy, const N: usize>(
     rt: &HostRuntime,
     bytes: &[u8; N],
@@ -134,7 +136,8 @@ fn say_few(rt: &HostRuntime, memory: &mut [Row<FrameKey>]) -> io::Result<()> {
     say_named(rt, "cut in a bad key", &[0, 1, 1, 0, 7, 9], memory)
 }
 
-// The rows of a log, and what is said of each cut and each change of it.
+// The rows of a log, and what is said of each cut and each change of it. What is shown is handed on piece by piece: a struct of
+// it would be taken apart at once.
 fn say_log<F: KeyKind + Copy, const N: usize>(
     rt: &HostRuntime,
     bytes: &[u8; N],

@@ -1,5 +1,5 @@
 -- The joined table in the parts that the nested loops add: the passing pairs, then a side's lone rows and the other's.
-use Rattle.std.proofs.Common.{◌≡◌, Bool, true, false, List, [], ◌++◌, map, refl, append_assoc, append-nil}
+use Rattle.std.proofs.Common.{◌≡◌, Bool, List, [], ◌++◌, map, refl, append_assoc}
 use mathlib.Core.List.{map-append}
 use Rattle.rows.specs.declared.kind.Kind.{Kind}
 use Rattle.rows.specs.declared.kind.Kind.TheVariants.{Inner, Left, Right, Full}
@@ -28,9 +28,3 @@ table_in_parts Full passes ls rs = in_parts (oriented Full) _ (lone_streamed pas
 -- the parts of a table, added one after another
 pub added_parts : (t u : Bool) (a b c first second last : List Record) → first ≡ a → second ≡ first ++ when t b → last ≡ second ++ when u c → last ≡ a ++ (when t b ++ when u c)
 added_parts t u a b c first second last e e' e'' = rw (e'', e', e, append_assoc a (when t b) (when u c))
-
-pub added_if : (t : Bool) (l items items' : List Record) → true ≡ t → items' ≡ items ++ l → items' ≡ items ++ when t l
-added_if t l items items' e k = rw (← e) k
-
-pub added_unless : (t : Bool) (l items items' : List Record) → false ≡ t → items' ≡ items → items' ≡ items ++ when t l
-added_unless t l items items' e k = rw (← e, append-nil items) k

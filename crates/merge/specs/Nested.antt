@@ -11,12 +11,12 @@ use Rattle.merge.specs.declared.nested_loops.Sides.{Sides}
 use Rattle.merge.specs.Table.{listed, meets_buffered, meets_streamed, all_pairs}
 use Rattle.merge.specs.Joined.{filter_of, passes, pair_passes}
 
-module _ {X : Type 0} (passes : X → X → Bool) (lefts rights : List X) where
-  -- the rows of a side
-  abbrev pub side_rows : Side → List X
-  side_rows on_left = lefts
-  side_rows on_right = rights
+-- the rows of a side
+abbrev pub side_rows : {X : Type 0} → (lefts rights : List X) → Side → List X
+side_rows lefts rights on_left = lefts
+side_rows lefts rights on_right = rights
 
+module _ {X : Type 0} (passes : X → X → Bool) (lefts rights : List X) where
   -- a row of a side passes with no row of the other side
   abbrev pub alone_among : Side → X → Bool
   alone_among on_left l = not (meets_buffered passes l rights)
@@ -24,7 +24,7 @@ module _ {X : Type 0} (passes : X → X → Bool) (lefts rights : List X) where
 
   -- the records of a side's rows that are alone
   abbrev pub lone_of : Side → List Record
-  lone_of side = listed (alone_on side) (alone_among side) 0 (side_rows side)
+  lone_of side = listed (alone_on side) (alone_among side) 0 (side_rows lefts rights side)
 
 module _ {O F K : Type 0} {order : orders.Ghosts O K} {filter : filters.Ghosts F} (sides : Sides O F K order filter) where
   -- a streamed and a buffered row pass
@@ -36,7 +36,7 @@ module _ {O F K : Type 0} {order : orders.Ghosts O K} {filter : filters.Ghosts F
   passing = pair_passes sides.kind (order.across sides.order.now) (filter_of filter.says sides.filter.now)
 
   abbrev pub rows_of : Side → List (Row K)
-  rows_of = side_rows passing sides.left.now sides.right.now
+  rows_of = side_rows sides.left.now sides.right.now
 
   abbrev pub is_alone : Side → Row K → Bool
   is_alone = alone_among passing sides.left.now sides.right.now

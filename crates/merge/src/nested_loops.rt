@@ -4,7 +4,7 @@ ghost use Rattle.merge.specs.declared.nested_loops.TableError.TheVariants.{Memor
 ghost use Rattle.merge.specs.Joined.{filter_of, lets_through, joined};
 ghost use Rattle.merge.specs.Places.{RefusesTooLong};
 
-use filters::filter::Filter;
+use filters::filter::{Filter, lets_through};
 use rows::kind::{Kind, Side};
 use rows::order::KeyOrder;
 use rows::reading::Reading;
@@ -84,10 +84,7 @@ impl<'a, O: KeyOrder, F: Filter> Sides<'a, O, F> {
     fn lets_through(&self, left: &Reading, right: &Reading) -> bool
         ensures { result ≡ lets_through (filter_of F.says self.now.filter.now) left.now right.now }
     {
-        match self.filter {
-            None => true,
-            Some(filter) => filter.ask(left, right).is_yes(),
-        }
+        lets_through(self.filter, left, right)
     }
 
     // Whether a left and a right row pass: their keys are same across, and the filter lets them through.

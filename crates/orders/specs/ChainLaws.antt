@@ -40,6 +40,7 @@ module _ {K : Type 0} (within₁ across₁ within₂ across₂ : K → K → Ord
   t₁ : Total within₁
   t₁ = total_of within₁ across₁ l₁
 
+  -- std's `then_total` asks for its own laws of both orders, and making these of `Laws` takes more lines than this
   passes : (a b c : K) → Rises (chained within₁ within₂) a b → Rises (chained within₁ within₂) b c → Rises (chained within₁ within₂) a c
   passes a b c h k =
       let ab : Rises within₁ a b = then_first (within₁ a b) (within₂ a b) h in

@@ -28,6 +28,7 @@ after_missing First h = refl
 after_missing Last h = absurd (omega arith)
 
 module _ {V : Type 0} (compare : V → V → Ordering) (t : Total compare) (p : MissingPlace) where
+  -- std's `options_total` has missing first alone, and both places for both directions take more cases than these
   turns : (d : Direction) (a b : Option V) → by_column Equal d p compare b a ≡ turned (by_column Equal d p compare a b)
   turns d None None = refl
   turns d None (Some y) = refl

@@ -18,6 +18,7 @@ impl<P: KeyOrder, Q: KeyOrder<Key = P::Key>> KeyOrder for Chain<P, Q> {
 
     ghost across = { λ o. chained (P.KeyOrder.across o.first) (Q.KeyOrder.across o.second) };
 
+    // within and across are two questions to an order, each asked of both
     fn compare_within(&self, a: &P::Key, b: &P::Key) -> Ordering {
         self.first
             .compare_within(a, b)

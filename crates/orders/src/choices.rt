@@ -15,6 +15,8 @@ pub enum Direction {
     Down,
 }
 
+// Each choice names itself: a trait takes an impl for each type.
+
 impl fmt::Display for Direction {
     ghost output = { λ it. Present (direction_name it) };
 

@@ -2,14 +2,13 @@
 use Rattle.std.specs.Prelude.{Bool, true, cond, List, [], ◌∷◌, ◌++◌, Some, None, Option}
 use Rattle.rows.specs.declared.reading.Reading.{Reading}
 use Rattle.filters.specs.declared.filter.Verdict.{Verdict}
-use Rattle.filters.specs.Verdicts.{is_yes}
+use Rattle.filters.specs.Verdicts.{lets_through}
 use Rattle.pipeline.specs.declared.entry.Entry.{Entry}
 use Rattle.pipeline.specs.declared.entry.StreamedRow.{StreamedRow}
 
 -- Whether a left and a right reading pass. `says` is what a filter says of them; without a filter every pair passes.
 abbrev pub asking : {F : Type 0} → (F → Reading → Reading → Verdict) → Option F → Reading → Reading → Bool
-asking says None l r = true
-asking says (Some f) l r = is_yes (says f l r)
+asking says filter l r = lets_through says filter l r
 
 -- the verdict of an entry with a streamed row; a lone row has none
 abbrev pub verdict_of : Option StreamedRow → Option Bool → Bool → Option Bool

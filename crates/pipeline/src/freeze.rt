@@ -5,9 +5,8 @@ ghost use Rattle.pipeline.specs.States.{states_of, marking};
 use crate::entry::Entry;
 use crate::orient::partner_place;
 use crate::states::States;
-use filters::filter::Filter;
+use filters::filter::{Filter, lets_through};
 use rows::kind::Kind;
-use rows::reading::Reading;
 
 // What pairs are judged with: the filter, the kind of join, and the place of the first buffered row that has a state.
 #[derive_where(Clone, Copy)]
@@ -17,18 +16,6 @@ pub struct Judge<'a, F> {
     pub base: u32,
 }
 
-impl<'a, F: Filter> Judge<'a, F> {
-    // What the filter says of a pair; without a filter every pair passes.
-    fn says_yes(&self, left: &Reading, right: &Reading) -> bool
-        ensures { result ≡ asking F.Filter.says self.now.filter.now left.now right.now }
-    {
-        match self.filter {
-            None => true,
-            Some(filter) => filter.ask(left, right).is_yes(),
-        }
-    }
-}
-
 // Asks the filter of each pair, writes its verdict, and marks it with the pair's buffered row. Lone rows stay as they are.
 pub fn freeze_entries<F: Filter>(judge: &Judge<F>, states: &mut States, entries: &mut [Entry])
     ensures entries { entries.new ≡ judged_all (asking F.Filter.says judge.now.filter.now) entries.old }
@@ -36,7 +23,7 @@ pub fn freeze_entries<F: Filter>(judge: &Judge<F>, states: &mut States, entries:
 {
     for entry in entries.iter_mut() {
         if entry.row.is_some() {
-            let yes = judge.says_yes(&entry.left, &entry.right);
+            let yes = lets_through(judge.filter, &entry.left, &entry.right);
             entry.verdict = Some(yes);
             let row = partner_place(judge.kind, entry.record).saturating_sub(judge.base);
             states.mark(row as usize, yes);

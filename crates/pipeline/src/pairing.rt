@@ -59,6 +59,7 @@ impl BufferedData {
         ensures left { run_at (holding self.now) result.position.batch result.position.row rows.now ≡ drop result.count (run_at (holding self.now) from.batch from.row rows.now) }
     {
         let known = rows.len().min(self.held);
+        // counted, since `out` may fill up within a batch
         let mut count = 0;
         let mut start = from.row;
         let mut first = self.rows_of(from.batch);

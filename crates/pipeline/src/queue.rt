@@ -221,6 +221,7 @@ impl Queue {
         if !self.can_note(first, n, block) {
             return Err(Refused);
         }
+        // counted from 0, since the place after the last one may not have 32 bits
         for i in 0..n {
             let place = (first as usize + i) as u32;
             self.note(block, Entry::lone(buffered_record(kind, place)));

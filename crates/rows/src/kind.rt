@@ -50,20 +50,14 @@ impl Kind {
     pub fn streamed_side(self) -> Side
         ensures { result ≡ streamed_side self }
     {
-        match self {
-            Kind::Inner | Kind::Left | Kind::Full => Side::Left,
-            Kind::Right => Side::Right,
-        }
+        self.oriented(Side::Left, Side::Right).0
     }
 
     // The other side.
     pub fn buffered_side(self) -> Side
         ensures { result ≡ buffered_side self }
     {
-        match self {
-            Kind::Inner | Kind::Left | Kind::Full => Side::Right,
-            Kind::Right => Side::Left,
-        }
+        self.oriented(Side::Left, Side::Right).1
     }
 
     // What the left and the right side have, of what the streamed and the buffered side have; and the other way round.

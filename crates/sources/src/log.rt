@@ -40,7 +40,7 @@ fn opened<F: KeyKind>(bytes: &[u8]) -> Coming<'_>
 {
     match bytes {
         [HEADER] => Err(SourceFault::RunsOut(0)),
-        [HEADER, code, rest @ ..] if *code == F::CODE => { next_batch::<F>(rest, bytes.len()) }
+        [HEADER, code, rest @ ..] if *code == F::CODE => next_batch::<F>(rest, bytes.len()),
         _ => Err(SourceFault::NoHeader(0)),
     }
 }

@@ -8,7 +8,7 @@ use crate::source::{Source, TakeRefusal};
 use rows::row::Row;
 
 #[cfg(test)]
-mod tests;
+pub(crate) mod tests;
 
 // Rows in memory as a source: one batch for every so many rows.
 #[derive(Drop)]

@@ -18,6 +18,7 @@ pub enum TakeRefusal {
 }
 
 impl TakeRefusal {
+    // One of the cases has a field, so the numbers stand here and not at the cases.
     pub fn number(&self) -> u8
         ensures { result ≡ refusal_number self.now }
     {

@@ -3,15 +3,8 @@ ghost use Rattle.sources.specs.declared.fault.SourceFault.TheVariants.{RunsOut};
 
 use super::*;
 use crate::memory::Memory;
-use rows::reading::Reading;
+use crate::memory::tests::row;
 use std::test::Fail;
-
-fn row(moment: u32) -> Row<u8> {
-    Row {
-        key: 7,
-        reading: Reading::new(moment, -60, 1),
-    }
-}
 
 #[test]
 fn both_ends(rt: HostRuntime) {

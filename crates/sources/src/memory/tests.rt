@@ -3,7 +3,7 @@ use rows::reading::Reading;
 use std::process::Abort;
 use std::test::Fail;
 
-fn row(moment: u32) -> Row<u8> {
+pub(crate) fn row(moment: u32) -> Row<u8> {
     Row {
         key: 7,
         reading: Reading::new(moment, -60, 1),

@@ -3,7 +3,8 @@ use Rattle.rows.specs.declared.record.Record.{Record}
 use Rattle.rows.specs.Sides.{streamed_side, buffered_side, is_outer, is_full}
 use Rattle.merge.specs.Joined.{filter_of, passes, pair_passes}
 use Rattle.merge.specs.Nested.{lone_of}
-use Rattle.merge.proofs.Parts.{table_in_parts, added_parts, added_if, added_unless}
+use Rattle.merge.proofs.Loops.{added_if, added_unless}
+use Rattle.merge.proofs.Parts.{table_in_parts, added_parts}
 use Rattle.merge.proofs.nested_loops.joined_table.Goals as goal
 use Rattle.merge.proofs.nested_loops.joined_table.Goals.{then-lists_streamed+in_ok-add_lone, else-lists_streamed, then-lists_buffered+in_ok-add_lone-2, else-lists_buffered}
 

@@ -17,11 +17,11 @@ loop-entry-preserved g c =
     elim c.if-is_some.branch [
       | then-is_some w ↦
           let some = some_of e.row (sym c.is_some.ensures ∙ w.if-is_some.true) in
-          let verdict : Some w.says_yes-yes.result ≡ (judged asks e).verdict = ap (λ t. Some t) w.says_yes-yes.ensures ∙ sym (ap (λ r. verdict_of r e.verdict (asks e.left e.right)) some.1) in
+          let verdict : Some w.lets_through-yes.result ≡ (judged asks e).verdict = ap (λ t. Some t) w.lets_through-yes.ensures ∙ sym (ap (λ r. verdict_of r e.verdict (asks e.left e.right)) some.1) in
           let is : c.if-is_some.entries ≡ set xs i (judged asks e) = w.entries-is ∙ ap (λ v. set xs i (with_verdict v e)) verdict in
           let marks : states_of c.if-is_some.states ≡ mark_verdict e.row (judged asks e).verdict (buffered_place c.args.judge.now.kind e.«record» - c.args.judge.now.base) (states_of c.loop-entry.states) =
           ap states_of w.states-is ∙ w.mark.ensures
-          ∙ ap (λ n. mark_at n w.says_yes-yes.result (states_of c.loop-entry.states)) (w.saturating_sub-row.ensures ∙ ap (λ p. p - c.args.judge.now.base) w.partner_place.ensures)
+          ∙ ap (λ n. mark_at n w.lets_through-yes.result (states_of c.loop-entry.states)) (w.saturating_sub-row.ensures ∙ ap (λ p. p - c.args.judge.now.base) w.partner_place.ensures)
           ∙ ap (λ v. mark_verdict (Some some.0) v (buffered_place c.args.judge.now.kind e.«record» - c.args.judge.now.base) (states_of c.loop-entry.states)) verdict
           ∙ ap (λ r. mark_verdict r (judged asks e).verdict (buffered_place c.args.judge.now.kind e.«record» - c.args.judge.now.base) (states_of c.loop-entry.states)) (sym some.1) in (
             judged_more asks xs i blank here c.if-is_some.entries is _ c.loop-entry.invariant.0,
