@@ -1,7 +1,7 @@
 -- How a turn compares the streamed row with the run, read off the tables.
-use Rattle.std.proofs.Common.{◌≡◌, ℕ, ◌+◌, ◌<◌, ◌≤◌, Bool, true, false, cond, List, length, get_or, take, Some, None, Option, Ordering, sym, refl, ap, ◌∙◌, arith, length-take}
+use Rattle.std.proofs.Common.{◌≡◌, ℕ, ◌+◌, ◌<◌, ◌≤◌, Bool, true, false, cond, List, length, get_or, take, Some, None, Option, Ordering, sym, refl, ap, ◌∙◌, arith}
 use Rattle.std.proofs.lemmas.List.{length-take-le, get_or-take}
-use Rattle.std.proofs.lemmas.Option.{slice_get_past, slice_get_read, none-some}
+use Rattle.std.proofs.lemmas.Option.{slice_get_read, none-some}
 use Rattle.std.proofs.lemmas.Bool.{le-leb, cond-true}
 use Rattle.pipeline.specs.Block.{queued}
 use Rattle.pipeline.specs.Held.{holding}
@@ -15,9 +15,6 @@ use Rattle.join.specs.Shows.{Memory, core_of, phase_of, streamed_of, buffered_of
 -- a row of the first k
 pub row_taken : {A : Type 0} (n k : ℕ) (l : List A) (x : A) → n < k → k ≤ length l → x ≡ get_or l n x → row_at n (take k l) ≡ Some x
 row_taken n k l x within long is = slice_get_read (take k l) k n x (sym (length-take-le k l long)) within (is ∙ sym (get_or-take k l n x within))
-
-pub row_past : {A : Type 0} (n k : ℕ) (l : List A) → k ≤ n → row_at n (take k l) ≡ None
-row_past n k l past = slice_get_past (take k l) n (omega (arith, length-take k l))
 
 module _ {K : Type 0} (c : Setting K) (j : Join K) (m : Memory K) (size : c.size ≡ j.limits.batch) where
   waiting : length m.block ≡ j.limits.block → length (queued j.queue m.block).frozen + length (queued j.queue m.block).unfrozen ≡ j.queue.frozen + j.queue.unfrozen
