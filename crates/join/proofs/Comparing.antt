@@ -1,9 +1,8 @@
 -- How a turn compares the streamed row with the run, read off the tables.
-use Rattle.std.proofs.Common.{◌≡◌, ℕ, ◌+◌, ◌<◌, ◌≤◌, Bool, true, false, cond, ltb, ◌⊎◌, List, length, get_or, take, Some, None, Option, Ordering, Less, Greater, sym, refl, ap, ◌∙◌, inl, inr, arith, length-take}
+use Rattle.std.proofs.Common.{◌≡◌, ℕ, ◌+◌, ◌<◌, ◌≤◌, Bool, true, false, cond, List, length, get_or, take, Some, None, Option, Ordering, sym, refl, ap, ◌∙◌, arith}
 use Rattle.std.proofs.lemmas.List.{length-take-le, get_or-take}
-use Rattle.std.proofs.lemmas.Option.{slice_get_cases, slice_get_past, slice_get_read, none-some}
-use Rattle.std.proofs.lemmas.Bool.{le-leb, lt-leb, lt-ltb, le-ltb, cond-true, cond-false}
-use Rattle.rows.specs.declared.row.Row.{Row}
+use Rattle.std.proofs.lemmas.Option.{slice_get_read, none-some}
+use Rattle.std.proofs.lemmas.Bool.{le-leb, cond-true}
 use Rattle.pipeline.specs.Block.{queued}
 use Rattle.pipeline.specs.Held.{holding}
 use Rattle.pipeline.proofs.Queues.{counts}
@@ -11,21 +10,11 @@ use Rattle.join.specs.declared.phase.Phase.{Phase as PhaseOf}
 use Rattle.join.specs.declared.phase.Phase.TheVariants.{Turning}
 use Rattle.machine.specs.Machine.{Setting, Phase, Outcome, going, core, turning as turning_phase, marked_by, flush, deferred, step, step_of, row_at, run_head, comparison, has_batch}
 use Rattle.join.specs.declared.state.Join.{Join}
-use Rattle.join.specs.Shows.{Memory, FitsMemory, core_of, phase_of, streamed_of, buffered_of, counts_of, compared_as, flushed, turned}
+use Rattle.join.specs.Shows.{Memory, core_of, phase_of, streamed_of, buffered_of, counts_of, compared_as, flushed, turned}
 
 -- a row of the first k
 pub row_taken : {A : Type 0} (n k : ℕ) (l : List A) (x : A) → n < k → k ≤ length l → x ≡ get_or l n x → row_at n (take k l) ≡ Some x
 row_taken n k l x within long is = slice_get_read (take k l) k n x (sym (length-take-le k l long)) within (is ∙ sym (get_or-take k l n x within))
-
-pub row_past : {A : Type 0} (n k : ℕ) (l : List A) → k ≤ n → row_at n (take k l) ≡ None
-row_past n k l past = slice_get_past (take k l) n (omega (arith, length-take k l))
-
-row_some : {A : Type 0} (n k : ℕ) (l : List A) → n < k → k ≤ length l → (x : A) × (row_at n (take k l) ≡ Some x)
-row_some {A} n k l within long = go (slice_get_cases (take k l) n).1
-  where
-    go : ((x : A) × (n < length (take k l)) × (row_at n (take k l) ≡ Some x) × (get_or (take k l) n x ≡ x)) ⊎ ((length (take k l) ≤ n) × (row_at n (take k l) ≡ None)) → (x : A) × (row_at n (take k l) ≡ Some x)
-    go (inl h) = (h.0, h.2)
-    go (inr h) = absurd (omega (arith, length-take-le k l long, h.0))
 
 module _ {K : Type 0} (c : Setting K) (j : Join K) (m : Memory K) (size : c.size ≡ j.limits.batch) where
   waiting : length m.block ≡ j.limits.block → length (queued j.queue m.block).frozen + length (queued j.queue m.block).unfrozen ≡ j.queue.frozen + j.queue.unfrozen
@@ -36,31 +25,6 @@ module _ {K : Type 0} (c : Setting K) (j : Join K) (m : Memory K) (size : c.size
   -- a batch waits in the block: it is emptied first
   pub compares_nothing : length m.block ≡ j.limits.block → j.limits.batch ≤ j.queue.frozen + j.queue.unfrozen → compared_as c j m ≡ None
   compares_nothing long full = cond-true (has_batch c (queued j.queue m.block)) _ _ (le-leb _ _ (omega (arith, waiting long)))
-
-module _ {K : Type 0} (c : Setting K) (j : Join K) (m : Memory K) (fits : FitsMemory j.limits m) (size : c.size ≡ j.limits.batch) where
-  compares : j.queue.frozen + j.queue.unfrozen < j.limits.batch → (x y : Option (Row K)) → row_at j.streamed.at (take j.streamed.rows m.streamed) ≡ x → run_head c (buffered_of j m) ≡ y
-      → compared_as c j m ≡ Some (comparison c x y)
-  compares below x y is_x is_y =
-      cond-false (has_batch c (queued j.queue m.block)) _ _ (lt-leb _ _ (omega (arith, waiting c j m size fits.block_length)))
-      ∙ ap (λ (z : Option (Row K)). Some (comparison c z (run_head c (buffered_of j m)))) is_x
-      ∙ ap (λ (z : Option (Row K)). Some (comparison c x z)) is_y
-
-  -- no streamed row is left
-  pub compares_ended : j.queue.frozen + j.queue.unfrozen < j.limits.batch → j.streamed.rows ≤ j.streamed.at → compared_as c j m ≡ Some Greater
-  compares_ended below past = compares below None (run_head c (buffered_of j m)) (row_past j.streamed.at j.streamed.rows m.streamed past) refl
-
-  -- no row is in the run
-  pub compares_alone : j.queue.frozen + j.queue.unfrozen < j.limits.batch → j.streamed.at < j.streamed.rows → j.buffered.end ≤ j.buffered.start → compared_as c j m ≡ Some Less
-  compares_alone below within none =
-      let x = row_some j.streamed.at j.streamed.rows m.streamed within (omega arith) in
-      compares below (Some x.0) None x.1 (cond-false (ltb j.buffered.start j.buffered.end) _ _ (le-ltb _ _ none))
-
-  -- the streamed row against the run's first one
-  pub compares_rows : j.queue.frozen + j.queue.unfrozen < j.limits.batch → (x y : Row K) → j.streamed.at < j.streamed.rows → x ≡ get_or m.streamed j.streamed.at x
-      → j.buffered.start < j.buffered.end → y ≡ get_or m.buffered j.buffered.start y → compared_as c j m ≡ Some (c.across x.key y.key)
-  compares_rows below x y within is some is_y =
-      compares below (Some x) (Some y) (row_taken j.streamed.at j.streamed.rows m.streamed x within (omega arith) is)
-      (cond-true (ltb j.buffered.start j.buffered.end) _ _ (lt-ltb _ _ some) ∙ row_taken j.buffered.start j.buffered.held m.buffered y (omega arith) (omega arith) is_y)
 
 -- What the turn comes to, by the comparison.
 module _ {K : Type 0} (c : Setting K) (j : Join K) (m : Memory K) (turning : j.phase ≡ Turning) where

@@ -13,7 +13,6 @@ use Rattle.pipeline.specs.Freezing.{judged_all}
 use Rattle.pipeline.specs.Held.{holding}
 use Rattle.pipeline.specs.States.{marking}
 use Rattle.machine.specs.declared.fault.JoinFault.{JoinFault}
-use Rattle.machine.specs.declared.fault.JoinFault.TheVariants.{Unsorted}
 use Rattle.machine.specs.Machine.{Setting, Streamed, Buffered, Counts, fetching, stopped, Core, core, Outcome, going, answered, Told, streamed_read, deferred, let_go, marked_by, disorder, step, step_of, stops, skipped, at_end, after_fetch, fetch_taken}
 use Rattle.join.specs.declared.load.LoadFault.{LoadFault}
 use Rattle.join.specs.declared.phase.Phase.{Phase as PhaseOf}
@@ -23,22 +22,12 @@ use Rattle.join.specs.declared.turn.Step.{Step}
 use Rattle.join.specs.declared.turn.Step.TheVariants.{Said}
 use Rattle.join.specs.Loads.{on_side, checked}
 use Rattle.join.specs.Shows.{Memory, memory, setting, core_of, streamed_of, buffered_of, counts_of, phase_of, Stepped}
-use Rattle.join.specs.Taken.{Before, use_taken}
+use Rattle.join.specs.Taken.{use_taken}
 use Rattle.join.proofs.Loading.{told, loading_told, fetch_is}
 
 -- a step that answers
 pub said : {K : Type 0} {o : Outcome K} {told : Told} {r : Step} {after : Core K} → r ≡ Said told → o ≡ answered told after → Stepped o r after
 said {K} {o} {told} {r} {after} is stops = subst (λ (x : Step). Stepped o x after) (sym is) stops
-
--- a batch with a row out of order stops the join
-pub unsorted_stops : {K : Type 0} (c : Setting K) (within : K → K → Ordering) (j : Join K) (m : Memory K) (st : Streamed K) (first : Bool) (n k read : ℕ) (taken : List (Row K)) (side : Side) (r : Step) (after : Core K)
-    → c.kind ≡ j.limits.kind → Before j m st → side ≡ streamed_side j.limits.kind → read ≡ j.streamed.first + j.streamed.rows
-    → taken ≡ take n m.streamed → Some k ≡ disorder within j.streamed_last taken read → r ≡ Said (Err (Unsorted side k))
-    → after ≡ core (record { batches = m.streamed_batches; closing = m.streamed_closing; first = read; rows = []; at = 0; ended = false; last = j.streamed_last }) (buffered_of j m) (queued j.queue m.block) (counts_of j.counts) (stopped (Unsorted side k))
-    → Stepped (use_taken c (disorder within st.last (take n m.streamed) (streamed_read st)) first n j m st) r after
-unsorted_stops {K} c within j m st first n k read taken side r after kind b is_side is_read is_taken found is_r is_after =
-    let finds : disorder within st.last (take n m.streamed) (streamed_read st) ≡ Some k = rw (b.last_same, b.read_same, ← is_read, ← is_taken) (sym found) in
-    said is_r (ap (λ (d : Option ℕ). use_taken c d first n j m st) finds ∙ rw (kind, ← is_side, b.closing_same, b.read_same, ← is_read, b.last_same, is_after) refl)
 
 module _ {K : Type 0} (j : Join K) (first : Bool) (within across : K → K → Ordering) (asks : Reading → Reading → Bool) (filtered : Bool) (m : Memory K)
     (read : ℕ) (is_phase : j.phase ≡ Fetching first) (long : length m.streamed ≡ j.limits.streamed) (is_read : read ≡ j.streamed.first + j.streamed.rows) where

@@ -1,10 +1,8 @@
 pub mod Comparing
 pub mod Fetching
-pub mod Handing
 pub mod Lists
 pub mod Loading
 pub mod Pairs
-pub mod Reporting
 pub mod Settling
 pub mod Turning
 pub mod Writing

@@ -1,5 +1,5 @@
--- The pairs of a streamed row with the run: where they begin, how many are written at a time, and what is left.
-use Rattle.std.proofs.Common.{◌≡◌, ℕ, suc, ◌+◌, ◌-◌, ◌<◌, ◌≤◌, min, ◌⊎◌, List, [], ◌∷◌, ◌++◌, length, take, drop, Some, Equal, sym, refl, ap, ◌∙◌, inl, inr, arith}
+-- The pairs of a streamed row with the run: how many are written at a time, and what is left.
+use Rattle.std.proofs.Common.{◌≡◌, ℕ, suc, ◌+◌, ◌-◌, ◌<◌, ◌≤◌, min, ◌⊎◌, List, [], ◌∷◌, ◌++◌, length, take, drop, Some, sym, refl, ap, ◌∙◌, inl, inr, arith}
 use borrow.Rule.Slice.PartMut.{put_mid}
 use Rattle.std.proofs.lemmas.List.{length-take, length-take-le, length-drop, length-append, take_all, take-take, take_at, take-append-le, drop_all, drop-take, drop_at, nil_from_length}
 use Rattle.std.proofs.lemmas.Bool.{cases_lt}
@@ -9,19 +9,9 @@ use Rattle.rows.specs.declared.row.Row.{Row}
 use Rattle.pipeline.specs.declared.entry.StreamedRow.{StreamedRow}
 use Rattle.pipeline.specs.declared.held.BufferedData.{BufferedData}
 use Rattle.pipeline.specs.Batches.{rows_of}
-use Rattle.pipeline.specs.Block.{Queued, queued, pushed}
+use Rattle.pipeline.specs.Block.{Queued, pushed}
 use Rattle.pipeline.specs.Held.{holding, matching, run_at, run_from, pairs_with}
-use Rattle.machine.specs.Machine.{Setting, Streamed, Buffered, Counts, Outcome, going, core, pairing, passing, compared, head_start, with_holding, freeze_full, place, pair_row}
-use Rattle.join.specs.declared.state.Join.{Join}
-use Rattle.join.specs.Shows.{Memory, streamed_of, buffered_of, counts_of}
-
--- a join whose pairs go on at row r of the first batch, with the whole run left
-abbrev begun_at : {K : Type 0} → Join K → Memory K → ℕ → Outcome K
-begun_at j m r = going (core (streamed_of j m) (buffered_of j m) (queued j.queue m.block) (counts_of j.counts) (pairing (take (j.buffered.end - j.buffered.start) (run_at (holding j.buffered) 0 r (take j.buffered.held m.buffered)))))
-
-pub begins : {K : Type 0} (c : Setting K) (j : Join K) (m : Memory K) (r : ℕ) → head_start c (take j.buffered.count j.buffered.batches) ≡ r
-    → compared c Equal (streamed_of j m) (buffered_of j m) (queued j.queue m.block) (counts_of j.counts) ≡ begun_at j m r
-begins c j m r is = ap (begun_at j m) is
+use Rattle.machine.specs.Machine.{Setting, Streamed, Buffered, Counts, Outcome, going, core, pairing, passing, with_holding, freeze_full, place, pair_row}
 
 -- ---- what is left to pair, of which n rows are paired now: no more than there are, than are left, and than have room
 

@@ -21,7 +21,7 @@ use Rattle.join.specs.declared.state.Join.{Join}
 use Rattle.join.specs.Phases.{pending}
 use Rattle.join.specs.Shows.{Memory, with_tables, FitsTables, FitsMemory, Ready, core_of, streamed_of, buffered_of, counts_of, phase_of}
 use Rattle.join.specs.Pairing.{adding}
-use Rattle.join.proofs.Comparing.{row_taken, row_past}
+use Rattle.join.proofs.Comparing.{row_taken}
 use Rattle.join.proofs.Turning.{freeze_waits, freeze_fills}
 use Rattle.join.proofs.Pairs.{taken_now, left_over, none_left, some_left, run_held, pairs_length, pairs_end, pairs_go_on, written_there}
 
@@ -53,10 +53,6 @@ module _ {K : Type 0} (c : Setting K) (j : Join K) (m : Memory K) (fits : FitsMe
   starts =
       ap (λ (ph : PhaseOf). step c (phase_of ph (holding j.buffered) (take j.buffered.held m.buffered)) st bf q n) is_phase
       ∙ ap (λ (l : List (ℕ × Row K)). pair_row c (row_at j.streamed.at (take j.streamed.rows m.streamed)) (take pairs.left l) st bf q n) (run_held j.buffered pairs.batch pairs.row m.buffered)
-
-  -- no streamed row is left
-  pub passes : j.streamed.rows ≤ j.streamed.at → step_of c (core_of j m) ≡ going (core st bf q n passing)
-  passes past = starts ∙ rw (row_past j.streamed.at j.streamed.rows m.streamed past) refl
 
   module _ (is_kind : c.kind ≡ j.limits.kind) (is_size : c.size ≡ j.limits.batch) (within : j.streamed.at < j.streamed.rows) (x : Row K) (is_row : x ≡ get_or m.streamed j.streamed.at x)
       (k : ℕ) (now : k ≡ min (length rest) (min pairs.left (j.limits.batch - j.queue.unfrozen))) (block : List Entry) (shown : queued j.queue block ≡ q) where

@@ -16,7 +16,8 @@ pub record Idle (q : Queue) (block : List Entry) : Type 0 where
   pub none_due : q.due ≡ 0
   pub roomy : Roomy q block
 
--- The queue and the block hold what `step` makes of what they held. Nothing is unfrozen, and no more is counted than was.
+-- The queue and the block hold what `step` makes of what they held, so that each number of the queue is known. Nothing is
+-- unfrozen, and no more is counted than was.
 pub record Settled (step : Queued → Queued) (q : Queue) (block : List Entry) (q' : Queue) (block' : List Entry) : Type 0 where
   pub holds : queued q' block' ≡ step (queued q block)
   pub roomy : Roomy q' block'

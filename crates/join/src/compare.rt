@@ -11,7 +11,7 @@ use std::cmp::Ordering;
 
 impl<K: Copy> Join<K> {
     // How the streamed row compares with the run: streamed ended is after, no buffered rows is before. None while no turn is
-    // due, and when the block has to be emptied first.
+    // due, and when the block has to be emptied first. The tables are two slices here and below: a load writes one of them alone.
     pub(crate) fn compare<O: KeyOrder<Key = K>>(
         &self,
         order: &O,

@@ -63,12 +63,12 @@ impl<K: Copy> Join<K> {
                 self.phase = after_fetch_of(first);
                 return Step::Going;
             }
+            Ok(Some(0)) => {
+                let _ = source.take(table);
+                return Step::Going;
+            }
             Ok(Some(n)) => n,
         };
-        if n == 0 {
-            let _ = source.take(table);
-            return Step::Going;
-        }
         if self.queue.unfrozen > 0 {
             let judge = self.judge(filter);
             freeze_unfrozen(&mut self.queue, &mut self.states, &judge, block);

@@ -15,6 +15,7 @@ pub struct Opening {
 }
 
 impl Opening {
+    // no From, which would be public
     pub(crate) fn into_limits(self) -> Limits
         ensures { SameLimits result self.limits }
     {

@@ -35,7 +35,7 @@ returns-then-self-gt0 g c =
     let sl = g.S.Source.batches c.args.source.now in
     let sc = g.S.Source.closing c.args.source.now in
     let n = c.in-Ok-Some.n in
-    let some : 0 < n = omega (arith, c.if-n-eq0.false) in
+    let some : 0 < n = omega (arith, c.in-Ok-Some.n-test) in
     let told = c.in-Ok-Some.ensures in
     let says : Ok (Some n) ≡ checked (upcoming sl sc) c.read-read.result false j.limits.streamed = cc in
     record {
@@ -59,7 +59,7 @@ returns g c =
     let table' = c.take-2.new.memory in
     let block = c.args.block.now in
     let n = c.in-Ok-Some.n in
-    let some : 0 < n = omega (arith, c.if-n-eq0.false) in
+    let some : 0 < n = omega (arith, c.in-Ok-Some.n-test) in
     let told = c.in-Ok-Some.ensures in
     let says : Ok (Some n) ≡ checked (upcoming sl sc) c.read-read.result false j.limits.streamed = cc in
     record {

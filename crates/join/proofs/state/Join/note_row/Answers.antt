@@ -7,7 +7,7 @@ use Rattle.machine.specs.Machine.{passing, let_go}
 use Rattle.join.specs.Settled.{defers, asked}
 use Rattle.join.specs.Shows.{streamed_of, buffered_of, counts_of, setting_by}
 use Rattle.join.proofs.Settling.{settled_as, marked_as}
-use Rattle.join.proofs.Turning.{freeze_waits, freeze_fills, lone_pushed}
+use Rattle.join.proofs.Turning.{freeze_fills, lone_pushed}
 use Rattle.join.proofs.state.Join.note_row.Goals as goal
 
 pub returns-then-self : goal.returns-then-self
@@ -25,19 +25,5 @@ returns-then-self g c =
           (states_of c.freeze_everything.new.states) (queued c.freeze_everything.new.queue c.freeze_everything.new.block)
           (marked_as says c.judge-judge.ensures c.freeze_everything.ensures.states).marks
           (settled_as says c.judge-judge.ensures (λ judge q. let_go (defers judge) (freeze_all (asked says judge) q)) c.freeze_everything.ensures.queue).holds;
-      limits = refl;
-    }
-
-pub returns-else-self : goal.returns-else-self
-returns-else-self g c =
-    let j = c.args.self.now in
-    let q = queued j.queue c.args.block.now in
-    let q' = queued c.push_lone.new.queue c.push_lone.new.block in
-    let lists : is_outer j.limits.kind ≡ true = sym c.lists_streamed.ensures ∙ c.if-not-lists_streamed.false in
-    record {
-      does = λ within across m.
-          let s = setting_by j.limits g.F.Filter.says c.args.filter.now within across in
-          lone_pushed s (streamed_of j m) (buffered_of j m) q q' (counts_of j.counts) lists c.push_lone.ensures.queue
-          ∙ freeze_waits s passing (streamed_of j m) (buffered_of j m) q' (counts_of j.counts) (omega (arith, (counts c.push_lone.new.queue c.push_lone.new.block c.push_lone.ensures.roomy).1, c.if-self.false));
       limits = refl;
     }

@@ -1,4 +1,4 @@
-use Rattle.std.proofs.Common.{sym, refl, ap, ◌∙◌, arith}
+use Rattle.std.proofs.Common.{sym, refl, ap, ◌∙◌}
 use Rattle.join.specs.declared.limits.Limits.{Limits}
 use Rattle.join.specs.Pairing.{adding}
 use Rattle.join.specs.Shows.{with_tables, setting_by}
@@ -13,12 +13,4 @@ returns-then-count-gt0 g c = record {
       ∙ ap (λ (l : Limits). adding (opened l) c.write_pairs-count.result c.write_pairs-count.new.self m') (sym c.write_pairs-count.ensures.limits)
       ∙ c.add_written.ensures.does within across m';
   limits = c.add_written.ensures.limits ∙ c.write_pairs-count.ensures.limits;
-}
-
-pub returns-else-count-gt0 : goal.returns-else-count-gt0
-returns-else-count-gt0 g c = record {
-  does = λ within across m.
-      c.write_pairs-count.ensures.none (omega (arith, c.if-count-gt0.false))
-      (setting_by c.args.self.now.limits g.F.Filter.says c.args.filter.now within across) refl refl m;
-  limits = c.write_pairs-count.ensures.limits;
 }

@@ -1,22 +1,7 @@
 use Rattle.std.proofs.Common.{◌≡◌, ◌≤◌, refl, ap, arith}
 use Rattle.pipeline.specs.Held.{Holding, holding, matching}
-use Rattle.join.specs.Shows.{with_tables}
-use Rattle.join.proofs.Writing.{fits_memory, passes, Scanned, scan_long, scan_left, scan_room, scan_ends, scan_goes_on}
+use Rattle.join.proofs.Writing.{Scanned, scan_long, scan_left, scan_room, scan_ends, scan_goes_on}
 use Rattle.join.proofs.state.Join.write_pairs.Goals as goal
-
-pub returns-then-at-self : goal.returns-then-at-self
-returns-then-at-self g c = record {
-  limits = refl;
-  queue = refl;
-  states = refl;
-  held = refl;
-  long = refl;
-  few = omega arith;
-  room = omega arith;
-  none = λ none s kind size m.
-      passes s c.args.self.now (with_tables c.args.streamed.now c.args.buffered.now c.args.block.now m) (fits_memory c.requires.ready c.requires.tables m) c.args.pairs c.requires.phase c.if-at-self.true;
-  some = λ some. absurd (omega arith);
-}
 
 pub returns-then-stop-eq0 : goal.returns-then-stop-eq0
 returns-then-stop-eq0 g c =
