@@ -172,7 +172,7 @@ def point_5():
     clauses = defaultdict(set)
     for f in all_functions():
         for kind, _, text in f.clauses:
-            if len(text) > 24:
+            if len(text) >= 24:
                 clauses[kind + " " + text].add(f.where())
     for text, places in sorted(clauses.items(), key=lambda pair: -len(pair[1])):
         if len(places) >= 3:

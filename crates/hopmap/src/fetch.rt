@@ -9,7 +9,7 @@ use std::alloc::AllocError;
 
 // Takes the next batch of a source into a memory that then has the rows of that batch alone, and answers as the source does:
 // how many rows they are, or none at its end. At the end and at a fault the memory stays as it is.
-// Callers loop: an iterator cannot lend the memory, and a closure that writes lines says nothing of what it is left with.
+// Callers loop: an iterator cannot lend the memory, and of a closure that is called for each batch no clause says what it leaves.
 pub fn fetch<S: Source>(
     source: &mut S,
     memory: &mut Vec<Row<S::Key>>,

@@ -44,6 +44,7 @@ impl<K: fmt::Display> fmt::Display for RowLine<K> {
 }
 
 // What is wrong with a source, in words.
+// A text about a fault, and not its name.
 pub fn words_of(fault: SourceFault) -> &'static str
     ensures { result.now ≡ fault_words fault }
 {

@@ -3,7 +3,6 @@ ghost use Rattle.hopmap.specs.Sequences.{no_keys, checked, checked_rows};
 
 use rows::order::KeyOrder;
 use rows::row::Row;
-use std::cmp::Ordering;
 
 // Whether keys that come one by one are in key order.
 #[derive(Clone, Copy)]
@@ -38,9 +37,7 @@ impl<K: Copy> Sequence<K> {
         ensures { result ≡ checked (O.KeyOrder.within order.now) self key }
     {
         let broken = match (self.broken, self.last) {
-            (None, Some(last)) if order.compare_within(&last, &key) == Ordering::Greater => Some(
-                self.count,
-            ),
+            (None, Some(last)) if order.compare_within(&last, &key).is_gt() => Some(self.count),
             (broken, _) => broken,
         };
         Sequence {

@@ -55,7 +55,7 @@ impl fmt::Display for Setting {
 }
 
 impl Setting {
-    // What may stand after its name, in words.
+    // What may stand after its name, in words: a text about it, and not its name.
     pub fn takes(self) -> &'static str
         ensures { result.now ≡ setting_takes self }
     {

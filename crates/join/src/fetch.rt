@@ -78,7 +78,8 @@ impl<K: Copy> Join<K> {
         self.use_streamed(first, order, table, n)
     }
 
-    // Puts a batch that was taken to use, unless it is unsorted.
+    // Puts a batch that was taken to use, unless it is unsorted. It is given the whole table, of which the join's meaning speaks, and
+    // how many rows came.
     fn use_streamed<O: KeyOrder<Key = K>>(
         &mut self,
         first: bool,

@@ -39,8 +39,8 @@ fn has_memory(batch: usize, streamed: usize, buffered: usize, block: usize) -> b
     is_table_length(streamed) && is_table_length(buffered) && batch + buffered <= block
 }
 
-// Whether a join can be opened: with a kind by its number, a batch size, and the lengths of the streamed table, the buffered
-// table and the block.
+// Whether a join can be opened. It is asked with plain numbers, the kind's by the rules, a batch size, and the lengths of the
+// streamed table, the buffered table and the block.
 pub fn check(
     kind: u8,
     batch_size: usize,

@@ -9,6 +9,8 @@ use pipeline::freeze::Judge;
 use pipeline::queue::Queue;
 use pipeline::states::States;
 
+// Queue and states are two fields of a join, of which a step changes others too, and the block is the caller's: so they stand apart.
+
 // A filtered left, right or full join defers its records until they are corrected.
 fn defers<F>(judge: &Judge<F>) -> bool
     ensures { result ≡ defers judge.now }

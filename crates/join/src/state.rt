@@ -14,7 +14,7 @@ use rows::row::Row;
 // given, the entries in the block.
 #[derive(Drop)]
 pub struct Join<K> {
-    // no step changes them; each says so in a clause of its own, since a name for that clause would be no shorter
+    // no step changes them, as each says in a clause; they stand here, since the invariants below tie the rest to them
     pub(crate) limits: Limits,
     pub(crate) phase: Phase,
     pub(crate) counts: Counts,

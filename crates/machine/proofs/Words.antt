@@ -1,6 +1,7 @@
 -- The law of runs: what is proved of the plain machine, said of a join in words of left and right.
 use Rattle.std.proofs.Common.{◌≡◌, ℕ, ◌+◌, ◌-◌, ◌≤◌, min, Bool, true, false, cond, not, ◌&&◌, ◌⊎◌, List, [], ◌∷◌, ◌++◌, map, length, take, drop, Some, None, Ok, Err, Option, Ordering, sym, refl, ap, ◌∙◌, subst, subst₂, inl, inr, arith, length-append, length-drop, length-take}
 use mathlib.Core.List.{Permᴰ}
+use mathlib.Core.List.Permᴰ
 use mathlib.Core.Bool.{false≢true}
 use lib.ListN.{length-map}
 use Rattle.std.specs.List.{ContainsAt as Has, AllByRecursion}
@@ -43,12 +44,6 @@ use Rattle.machine.proofs.Follows.{WholeCore}
 use Rattle.machine.proofs.Fetch.{last_is, side_streamed, side_buffered}
 use Rattle.machine.proofs.Steps.{follows_call}
 use Rattle.machine.proofs.Sound.{Close, Kept, stopped_by, fails_at, call_sound, failed_push}
-
-perm_map : {A B : Type 0} (f : A → B) {a b : List A} → Permᴰ a b → Permᴰ (map f a) (map f b)
-perm_map f Permᴰ.nil = Permᴰ.nil
-perm_map f (Permᴰ.cons e d) = Permᴰ.cons (ap f e) (perm_map f d)
-perm_map f (Permᴰ.swap e e') = Permᴰ.swap (ap f e) (ap f e')
-perm_map f (Permᴰ.trans d d') = Permᴰ.trans (perm_map f d) (perm_map f d')
 
 -- ---- small translations
 
@@ -313,7 +308,7 @@ module _ {K V : Type 0} (kind : Kind) (within across : K → K → Ordering) (fi
 
     whole_table : Has told (Ok Finished) → IsPermutation out (joined kind across filter (rows_in lefts.batches) (rows_in rights.batches))
     whole_table h =
-        let p = perm_map (oriented kind) (whole_perm plain row_laws sl sc bl bc v₀ fair (map (oriented kind) out) (map (answer_of kind) told) s₂ (follows_runs r).0 (finished h)) in
+        let p = Permᴰ.map (oriented kind) (whole_perm plain row_laws sl sc bl bc v₀ fair (map (oriented kind) out) (map (answer_of kind) told) s₂ (follows_runs r).0 (finished h)) in
         let p₁ = subst (λ z. Permᴰ z (map (oriented kind) (plain_law.joined plain (rows_in sl) (rows_in bl)))) (twice kind out) p in
         let p₂ = subst (λ z. Permᴰ out (map (oriented kind) (plain_law.joined plain z (rows_in bl)))) (sym all_s) p₁ in
         shuffled_from_perm (subst (λ z. Permᴰ out (map (oriented kind) (plain_law.joined plain (streamed_of kind (rows_in lefts.batches) (rows_in rights.batches)) z))) (sym all_b) p₂)

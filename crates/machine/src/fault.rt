@@ -111,6 +111,7 @@ impl JoinFault {
 }
 
 impl TurnRefusal {
+    // A case has a field, so the numbers stand here.
     pub fn number(&self) -> u8
         ensures { result ≡ (turn_refusal self.now).number }
     {

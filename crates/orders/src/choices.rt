@@ -134,7 +134,7 @@ impl Choices {
         }
     }
 
-    // Two missing values across.
+    // Two missing values across. It decides otherwise than the function above, and is like it in shape alone.
     pub(crate) fn two_missing(&self) -> Ordering
         ensures { result ≡ two_missing self.now.equals }
     {

@@ -30,6 +30,7 @@ pub struct ColumnOrder<C> {
 }
 
 impl<C: Column> ColumnOrder<C> {
+    // Directions and missing values are decided here, which no derive does.
     // Two values of the column, where two missing ones give `both`.
     fn compare(&self, both: Ordering, a: Option<&C::Value>, b: Option<&C::Value>) -> Ordering
         ensures { result ≡ by_column both self.now.choices.direction self.now.choices.missing C.Value.Ord.cmp (option_map (λ x. x.now) a.entry) (option_map (λ x. x.now) b.entry) }

@@ -50,6 +50,7 @@ impl KeyOrder for FrameOrder {
 
     ghost across = { λ o. frame_across o.node o.number };
 
+    // within and across are two questions to an order
     fn compare_within(&self, a: &FrameKey, b: &FrameKey) -> Ordering {
         self.chain().compare_within(a, b)
     }
@@ -91,6 +92,7 @@ impl KeyOrder for LabelOrder {
 
     ghost across = { λ o. label_across o.label };
 
+    // as above
     fn compare_within(&self, a: &LabelKey, b: &LabelKey) -> Ordering {
         self.column().compare_within(a, b)
     }

@@ -4,7 +4,8 @@ ghost use Rattle.pipeline.specs.Batches.{rows_of};
 use crate::batch::BufferedBatch;
 
 // The held batches lie in the table one after the other from its start. The run goes from row `start` to row `end` of the
-// table; `base` is the place of the table's first row. A plain struct with an array and a count, which a fixed memory can hold.
+// table; `base` is the place of the table's first row. An array and a count: the
+// type is Copy, which an `ArrayVec` is not.
 #[derive(Clone, Copy)]
 pub struct BufferedData {
     pub batches: [BufferedBatch; 64],

@@ -70,7 +70,7 @@ pub(crate) fn list_failed(kind: Kind, batch: Leaving, states: &States, out: &mut
     ensures front { take result out.new ≡ take (length out.old) (failed kind batch.first (take batch.rows (drop batch.from (states_of states.now)))) }
     ensures fits { result ≤ length out.old }
 {
-    // counted, since `out` may have room for fewer rows than failed
+    // counted, since `out` may have less room; of a chain that writes `out` in a closure no clause says what it leaves
     let mut count = 0;
     for i in 0..batch.rows {
         if count == out.len() {

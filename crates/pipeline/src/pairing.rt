@@ -26,7 +26,8 @@ pub struct Stop {
     pub position: Position,
 }
 
-// The pair of a streamed row with a buffered row, not frozen yet: each reading stands on the side of its row.
+// The pair of a streamed row with a buffered row, not frozen yet: each reading stands on the side of its row. What is given of
+// either row is what its tables have; a struct of it would be made for one call.
 fn pair_entry(
     kind: Kind,
     row: StreamedRow,
@@ -59,7 +60,7 @@ impl BufferedData {
         ensures left { run_at (holding self.now) result.position.batch result.position.row rows.now ≡ drop result.count (run_at (holding self.now) from.batch from.row rows.now) }
     {
         let known = rows.len().min(self.held);
-        // counted, since `out` may fill up within a batch
+        // counted, since `out` may fill up within a batch; of a chain that writes it in a closure no clause says what it leaves
         let mut count = 0;
         let mut start = from.row;
         let mut first = self.rows_of(from.batch);

@@ -221,7 +221,7 @@ impl Queue {
         if !self.can_note(first, n, block) {
             return Err(Refused);
         }
-        // counted from 0, since the place after the last one may not have 32 bits
+        // how many are noted is counted from 0; a loop over their places would say it by a difference
         for i in 0..n {
             let place = (first as usize + i) as u32;
             self.note(block, Entry::lone(buffered_record(kind, place)));

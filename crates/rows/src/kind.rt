@@ -29,6 +29,7 @@ pub enum Side {
 #[derive(Clone, Copy, PartialEq, Eq, Debug)]
 pub struct UnknownKind;
 
+// A kind has a number and a name, each read by an impl of its trait.
 impl TryFrom<u8> for Kind {
     type Error = UnknownKind;
 

@@ -19,6 +19,7 @@ impl SourceFault {
     // the layer of a log
     const LOG_LAYER: u8 = 0;
 
+    // The cases have fields, so their numbers stand here and not at the cases.
     pub fn number(&self) -> u8
         ensures { result ≡ number_of self.now }
     {

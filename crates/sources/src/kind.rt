@@ -1,6 +1,6 @@
 ghost use Rattle.std.specs.Prelude.{◌≡◌, ℕ, ◌<◌, true};
 ghost use Rattle.sources.specs.Layout.{Layout, ReadsBack, key_in};
-ghost use Rattle.sources.specs.Keys.{frames, labels};
+ghost use Rattle.sources.specs.Keys.{frames, labels, good_presence, all_zero};
 ghost use Rattle.std.proofs.Common.{rules};
 
 use rows::key::{FrameKey, LabelKey};
@@ -22,9 +22,24 @@ pub trait KeyKind {
 
     ghost layout: { Layout Self.Key };
 
+    // Whether the bytes are a key's.
+    fn is_valid(bytes: &[u8]) -> bool
+        ensures { result ≡ layout.valid bytes.now };
+
+    // The key in bytes that are a key's. It answers for all bytes and cannot fail, so it stands beside the test.
+    fn decode(bytes: &[u8]) -> Self::Key
+        ensures { result ≡ layout.decoded bytes.now };
+
     // The key in the bytes; none where they are not a key's.
     fn read(bytes: &[u8]) -> Option<Self::Key>
-        ensures { result ≡ key_in layout bytes.now };
+        ensures { result ≡ key_in layout bytes.now }
+    {
+        if Self::is_valid(bytes) {
+            Some(Self::decode(bytes))
+        } else {
+            None
+        }
+    }
 
     ghost code_is: { CODE ≡ layout.code };
 
@@ -33,6 +48,27 @@ pub trait KeyKind {
     ghost narrow: { layout.width < 65536 };
 
     ghost back: { (key : Self.Key) → layout.fits key ≡ true → ReadsBack layout key };
+}
+
+fn is_zero(bytes: &[u8]) -> bool
+    ensures { result ≡ all_zero bytes.now }
+{
+    for byte in bytes {
+        if *byte != 0 {
+            return false;
+        }
+    }
+    true
+}
+
+fn has_presence(bytes: &[u8]) -> bool
+    ensures { result ≡ good_presence bytes.now }
+{
+    match bytes {
+        [1, ..] => true,
+        [0, missing @ ..] => is_zero(missing),
+        _ => false,
+    }
 }
 
 // Frame keys: node 2, presence 1, number 4.
@@ -60,19 +96,25 @@ impl KeyKind for Frames {
 
     ghost back = { Prim.search rules };
 
-    fn read(bytes: &[u8]) -> Option<FrameKey> {
+    fn is_valid(bytes: &[u8]) -> bool {
+        if bytes.len() != Self::WIDTH {
+            return false;
+        }
+        let (_, number) = bytes.split_at(2);
+        has_presence(number)
+    }
+
+    fn decode(bytes: &[u8]) -> FrameKey {
         let [n0, n1, presence, a, b, c, d] = bytes else {
-            return None;
+            return FrameKey {
+                node: 0,
+                number: None,
+            };
         };
-        let node = u16::from_be_bytes([*n0, *n1]);
         let number = u32::from_be_bytes([*a, *b, *c, *d]);
-        match *presence {
-            1 => Some(FrameKey {
-                node,
-                number: Some(number),
-            }),
-            0 if number == 0 => Some(FrameKey { node, number: None }),
-            _ => None,
+        FrameKey {
+            node: u16::from_be_bytes([*n0, *n1]),
+            number: if *presence == 1 { Some(number) } else { None },
         }
     }
 }
@@ -102,13 +144,17 @@ impl KeyKind for Labels {
 
     ghost back = { Prim.search rules };
 
-    fn read(bytes: &[u8]) -> Option<LabelKey> {
-        let (presence, label) = bytes.split_first()?;
-        let label = <[u8; 12]>::try_from(label).ok()?;
-        match *presence {
-            1 => Some(LabelKey { label: Some(label) }),
-            0 if label == [0; 12] => Some(LabelKey { label: None }),
-            _ => None,
+    fn is_valid(bytes: &[u8]) -> bool {
+        bytes.len() == Self::WIDTH && has_presence(bytes)
+    }
+
+    fn decode(bytes: &[u8]) -> LabelKey {
+        let [1, label @ ..] = bytes else {
+            return LabelKey { label: None };
+        };
+        match <[u8; 12]>::try_from(label) {
+            Ok(label) => LabelKey { label: Some(label) },
+            Err(_) => LabelKey { label: None },
         }
     }
 }

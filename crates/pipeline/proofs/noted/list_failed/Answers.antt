@@ -1,17 +1,11 @@
-use Rattle.std.proofs.Common.{◌≡◌, ◌+◌, ◌<◌, ◌≤◌, length, take, drop, sym, ap, ◌∙◌, arith}
-use Rattle.std.proofs.lemmas.List.{length-take, length-set}
+use Rattle.std.proofs.Common.{◌≡◌, ◌<◌, length, take, drop, sym, ap, ◌∙◌, arith}
+use Rattle.std.proofs.lemmas.List.{length-set}
 use Rattle.pipeline.specs.Entries.{lone}
-use Rattle.pipeline.specs.States.{states_of, failed, state_at}
+use Rattle.pipeline.specs.States.{states_of, state_at}
 use Rattle.pipeline.specs.Block.{all_failed}
-use Rattle.pipeline.proofs.FailedRows.{state_in_batch, failed_write, failed_skip, failed_full, failed_all}
+use Rattle.pipeline.proofs.FailedRows.{state_in_batch, failed_write, failed_skip}
 use Rattle.pipeline.proofs.noted.list_failed.Goals as goal
 use Rattle.pipeline.proofs.noted.list_failed.Goals.{then-is_failed, else-is_failed}
-
-pub loop-i-init : goal.loop-i-init
-loop-i-init c =
-    let rows = take c.args.batch.rows (drop c.args.batch.from (states_of c.args.states.now)) in
-    let start : c.args.batch.first + 0 ≡ c.args.batch.first = omega arith in
-    (ap (λ j. failed c.args.kind j rows) start, omega arith)
 
 pub loop-i-preserved : goal.loop-i-preserved
 loop-i-preserved c =
@@ -30,22 +24,3 @@ loop-i-preserved c =
       | else-is_failed w ↦ rw (w.out-is, w.count-is)
           (failed_skip kind j i rows c.loop-i.out c.loop-i.count c.loop-i.invariant.0 (sym state ∙ w.if-is_failed.false), c.loop-i.invariant.1)
     ]
-
-pub returns-then-count-out : goal.returns-then-count-out
-returns-then-count-out c =
-    let rows = take c.args.batch.rows (drop c.args.batch.from (states_of c.args.states.now)) in
-    record {
-      front = failed_full c.args.kind c.args.batch.first c.loop-i.i rows c.loop-i.out c.loop-i.count c.loop-i.invariant.0 c.if-count-out.true
-          ∙ ap (λ n. take n (failed c.args.kind c.args.batch.first rows)) c.loop-i.auto.out;
-      fits = omega (arith, c.loop-i.invariant.1, c.loop-i.auto.out);
-    }
-
-pub returns : goal.returns
-returns c =
-    let rows = take c.args.batch.rows (drop c.args.batch.from (states_of c.args.states.now)) in
-    let past : length rows ≤ c.loop-i.i = omega (arith, length-take c.args.batch.rows (drop c.args.batch.from (states_of c.args.states.now)), c.loop-i-test.false) in
-    record {
-      front = failed_all c.args.kind c.args.batch.first c.loop-i.i rows c.loop-i.out c.loop-i.count c.loop-i.invariant.0 past c.loop-i.invariant.1
-          ∙ ap (λ n. take n (failed c.args.kind c.args.batch.first rows)) c.loop-i.auto.out;
-      fits = omega (arith, c.loop-i.invariant.1, c.loop-i.auto.out);
-    }

@@ -1,9 +1,8 @@
-use Rattle.std.proofs.Common.{◌≡◌, ◌+◌, [], ◌∷◌, ◌++◌, length, take, ap, ◌∙◌, arith, length-take-le}
+use Rattle.std.proofs.Common.{◌+◌, take, ap, ◌∙◌, arith}
 use Rattle.std.proofs.lemmas.List.{length-set, take_more_set}
 use Rattle.pipeline.specs.declared.batch.BufferedBatch.{BufferedBatch}
 use Rattle.pipeline.specs.Batches.{rows_of}
-use Rattle.pipeline.specs.Held.{holding, pushed}
-use Rattle.pipeline.proofs.Ranges.{with_batches, can_push_yes, rows_of_push}
+use Rattle.pipeline.proofs.Ranges.{rows_of_push}
 use Rattle.pipeline.proofs.held.BufferedData.push.Goals as goal
 
 pub invariant_of-self : goal.invariant_of-self
@@ -16,13 +15,4 @@ invariant_of-self c =
       within = omega arith;
       places = omega arith;
       together = ap rows_of more ∙ rows_of_push (take s.count s.batches) c.new.result ∙ ap (λ n. n + c.new.result.rows) s.together ∙ ap (λ (b : BufferedBatch). s.held + b.rows) c.new.ensures;
-    }
-
-pub returns : goal.returns
-returns c =
-    let s = c.args.self.now in
-    let len : length (take s.count s.batches) ≡ s.count = length-take-le s.count s.batches (omega arith) in
-    record {
-      answer = can_push_yes (holding s) c.args.rows (omega arith) (omega arith);
-      left = ap (with_batches (pushed c.args.rows (holding s))) (take_more_set s.batches s.count c.new.result (omega arith) ∙ ap (λ (b : BufferedBatch). take s.count s.batches ++ b ∷ []) c.new.ensures);
     }

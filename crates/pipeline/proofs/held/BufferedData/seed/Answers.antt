@@ -7,13 +7,6 @@ use Rattle.pipeline.proofs.Fronts.{set_same}
 use Rattle.pipeline.proofs.Ranges.{with_batches, can_seed_yes, can_seed_no, last_changed, tail_end_is, rows_of_last}
 use Rattle.pipeline.proofs.held.BufferedData.seed.Goals as goal
 
--- a last batch that refuses stays as it is
-pub invariant_of-self : goal.invariant_of-self
-invariant_of-self c =
-    let s = c.args.self.now in
-    let same : set s.batches (s.count - 1) c.advance.new.self ≡ s.batches = set_same s.batches (s.count - 1) _ c.advance.new.self c.in_err-advance.ensures.left in
-    record { room = ap length same ∙ s.room; few = s.few; run = s.run; within = s.within; places = s.places; together = ap (λ l. rows_of (take s.count l)) same ∙ s.together }
-
 pub returns-in_err-advance : goal.returns-in_err-advance
 returns-in_err-advance c =
     let s = c.args.self.now in

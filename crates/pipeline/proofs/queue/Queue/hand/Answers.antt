@@ -1,6 +1,6 @@
 use Rattle.std.proofs.Common.{drop, sym, refl, ap, ◌∙◌, arith}
 use Rattle.pipeline.proofs.Blank.{blank}
-use Rattle.pipeline.proofs.Queues.{due_more, due_some, due_none, same_queued}
+use Rattle.pipeline.proofs.Queues.{due_more, due_some, same_queued}
 use Rattle.pipeline.proofs.queue.Queue.hand.Goals as goal
 
 pub returns-then-has_due : goal.returns-then-has_due
@@ -11,8 +11,3 @@ returns-then-has_due c =
       holds = same_queued refl refl refl (sym (ap (drop 1) (due_more c.args.self.now c.args.block.now blank is)));
       roomy = λ r. record { held = r.held; front = omega (arith, some, r.front) };
     }
-
-pub returns-else-has_due : goal.returns-else-has_due
-returns-else-has_due c =
-    let none = due_none c.args.self.now c.args.block.now (sym c.has_due.ensures ∙ c.if-has_due.false) in
-    record { holds = same_queued refl refl refl (none ∙ sym (ap (drop 1) none)); roomy = λ r. r }
