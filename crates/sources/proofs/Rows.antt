@@ -1,5 +1,5 @@
 -- The rows of a batch's commands, one by one.
-use Rattle.std.proofs.Common.{◌≡◌, ℕ, zero, suc, ◌+◌, ◌-◌, ◌*◌, ◌/◌, ◌<◌, ◌≤◌, List, [], ◌∷◌, ◌++◌, length, get_or, take, drop, set, Some, true, ℤ, sym, refl, ap, ◌∙◌, suc-mul, zero-mul, div-mul-le_self, mul-div_cancel, arith, w8, to_z}
+use Rattle.std.proofs.Common.{◌≡◌, ℕ, zero, suc, ◌+◌, ◌-◌, ◌*◌, ◌/◌, ◌<◌, ◌≤◌, List, [], ◌∷◌, ◌++◌, length, get_or, take, drop, set, ℤ, sym, refl, ap, ◌∙◌, suc-mul, zero-mul, div-mul-le_self, mul-div_cancel, arith, w8, to_z}
 use Rattle.std.proofs.Math.Nat.{mul-le-mul_right}
 use Rattle.std.proofs.Math.Numerals.{add-one}
 use Rattle.std.proofs.lemmas.List.{take_rest, take-take, drop-drop, drop-take, get_or-take, length-take-le, length-take, take_all, take_more_set, length-drop}
@@ -7,9 +7,9 @@ use Rattle.std.specs.Int.Digits.{number_from_digits}
 use Rattle.rows.specs.declared.reading.Reading.{Reading}
 use Rattle.rows.specs.declared.row.Row.{Row}
 use Rattle.sources.specs.declared.batch.Operands.{Operands}
-use Rattle.sources.specs.Layout.{Layout, field, key_in}
+use Rattle.sources.specs.Layout.{Layout, field}
 use Rattle.sources.specs.Log.{reading_of, row_of}
-use Rattle.sources.specs.Coming.{Apart, KeysAreValid, row_width, rows_of, rows_in}
+use Rattle.sources.specs.Coming.{Apart, row_width, rows_of, rows_in}
 
 -- a part of the front of a list is that part of the list
 pub inner_part : {X : Type 0} (i k n : ℕ) (xs : List X) → i + k ≤ n → take k (drop i (take n xs)) ≡ take k (drop i xs)
@@ -85,11 +85,6 @@ row_apart L rest row key a e =
     let after = take (length rest - 1) (drop 1 rest) in
     ap (λ k. row_with k row.reading) (e ∙ ap L.decoded a.key) ∙ ap (row_with (L.decoded (take L.width after))) a.reading ∙ ap (row_of L) (take_rest rest 1)
 
--- and its key, where that is valid
-pub key_apart : {K : Type 0} (L : Layout K) (rest : List ℕ) (row : Operands) → Apart L (take (length rest - 1) (drop 1 rest)) row → L.valid (take L.width (drop 1 rest)) ≡ true
-    → key_in L row.key.now ≡ Some (L.decoded row.key.now)
-key_apart L rest row a valid = rw (a.key, take_rest rest 1, valid) refl
-
 pub rest_apart : {K : Type 0} (L : Layout K) (rest : List ℕ) (row : Operands) → Apart L (take (length rest - 1) (drop 1 rest)) row → row.rest.now ≡ drop (row_width L) rest
 rest_apart L rest row a =
     a.rest ∙ ap (drop (L.width + 7)) (take_rest rest 1) ∙ drop-drop (L.width + 7) 1 rest ∙ ap (λ m. drop m rest) (omega arith)
@@ -110,13 +105,10 @@ module _ {K : Type 0} (L : Layout K) (rows : List ℕ) where
     more : i < length rows / row_width L
     more = omega (arith, t, e, length-take count before, length_rows_of L (length rows / row_width L) rows)
 
-    -- the next row is whole, and its key is valid
+    -- the next row is whole
     pub row_room : row_width L ≤ length rest
     row_room =
         omega (arith, ap length w.behind, length-drop (i * row_width L) rows, rows_within (suc i) more, suc-mul i (row_width L))
-
-    pub row_valid : KeysAreValid L rows → L.valid (take L.width (drop 1 rest)) ≡ true
-    row_valid valid = rw (w.behind, drop-drop 1 (i * row_width L) rows) (valid i more)
 
     pub writing_more : (next : List ℕ) (r : Row K) → i < length memory → r ≡ row_of L (drop 1 rest) → next ≡ drop (row_width L) rest → Writing (i + 1) (set memory i r) next
     writing_more next r l er en =

@@ -1,16 +1,14 @@
 -- A scan over a log's commands, row by row, up to the command that closes the batch or the log.
-use Rattle.std.proofs.Common.{◌≡◌, ℕ, zero, suc, ◌+◌, ◌-◌, ◌*◌, ◌/◌, ◌<◌, ◌≤◌, Bool, true, false, leb, List, [], ◌∷◌, ◌++◌, length, get_or, take, drop, Some, None, Ok, Err, sym, refl, ap, ◌∙◌, ⊎_elim, suc-mul, zero-mul, mul-div_cancel, arith, le-leb}
-use Rattle.std.proofs.lemmas.Bool.{cases_eq}
-use Rattle.std.proofs.Math.Nat.{mul-le-mul_right, zero-div}
-use Rattle.std.proofs.lemmas.List.{drop-drop, length-drop, length-take, length-take-le, take_rest}
+use Rattle.std.proofs.Common.{◌≡◌, ℕ, zero, suc, ◌+◌, ◌-◌, ◌*◌, ◌<◌, ◌≤◌, true, leb, List, [], ◌∷◌, ◌++◌, length, get_or, take, drop, Some, Ok, Err, sym, refl, ap, ◌∙◌, suc-mul, zero-mul, arith, le-leb}
+use Rattle.std.proofs.lemmas.List.{drop-drop, length-drop, length-take, take_rest}
 use Rattle.sources.specs.declared.batch.Batch.{Batch}
 use Rattle.sources.specs.declared.batch.Operands.{Operands}
 use Rattle.sources.specs.declared.fault.SourceFault.TheVariants.{BadCommand}
 use Rattle.sources.specs.Meaning.{Closing}
-use Rattle.sources.specs.Layout.{Layout, key_in}
+use Rattle.sources.specs.Layout.{Layout}
 use Rattle.sources.specs.Log.{row, last, row_of, ended, commands, batches_from, closing_of}
-use Rattle.sources.specs.Coming.{Apart, KeysAreValid, row_width, rows_of, rows_in, Found}
-use Rattle.sources.proofs.Rows.{inner_part, rows_of_more, rows_in_front}
+use Rattle.sources.specs.Coming.{Apart, row_width, rows_of, rows_in, Found}
+use Rattle.sources.proofs.Rows.{rows_of_more, rows_in_front}
 
 -- what follows the first byte, as the checker reads a pattern's rest
 abbrev pub after : List ℕ → List ℕ
@@ -20,14 +18,6 @@ first_is : (bytes : List ℕ) (command : ℕ) → 0 < length bytes → get_or by
 first_is [] command l z = absurd (omega arith)
 first_is (b ∷ bytes) command l z = ap (λ x. x ∷ bytes) z ∙ ap (λ bs. command ∷ bs) (sym (take_rest (b ∷ bytes) 1))
 
--- bytes in which a key is read are valid
-pub valid_where_read : {K : Type 0} (L : Layout K) (bytes : List ℕ) (key : K) → Some key ≡ key_in L bytes → L.valid bytes ≡ true
-valid_where_read L bytes key e = go (L.valid bytes) refl
-  where
-    go : (t : Bool) → L.valid bytes ≡ t → L.valid bytes ≡ true
-    go true v = v
-    go false v = let none : Some key ≡ None = e ∙ rw v refl in absurd (cc none)
-
 -- the scan has passed so many whole rows; they stand before the commands of the rest
 pub record Passed {K : Type 0} (L : Layout K) (total : ℕ) (bytes rest : List ℕ) : Type 0 where
   pub count : ℕ
@@ -35,12 +25,8 @@ pub record Passed {K : Type 0} (L : Layout K) (total : ℕ) (bytes rest : List �
   pub behind : rest ≡ drop (count * row_width L) bytes
   pub batches : batches_from (rows_of L count bytes) (commands L total 0 rest) ≡ batches_from [] (commands L total 0 bytes)
   pub closing : closing_of (commands L total 0 rest) ≡ closing_of (commands L total 0 bytes)
-  pub valid : (n : ℕ) → n < count → L.valid (take L.width (drop (n * row_width L + 1) bytes)) ≡ true
 
 module _ {K : Type 0} (L : Layout K) (total : ℕ) where
-  none_valid : KeysAreValid L []
-  none_valid n h = absurd (omega (arith, zero-div (row_width L)))
-
   commands_past : (n : ℕ) (bytes : List ℕ) → n ≤ length bytes → commands L total n bytes ≡ commands L total 0 (drop n bytes)
   commands_past zero bytes h = refl
   commands_past (suc n) [] h = absurd (omega arith)
@@ -81,8 +67,6 @@ module _ {K : Type 0} (L : Layout K) (total : ℕ) where
         let eight : w ≡ suc (L.width + 7) = omega arith in
         let whole : L.width + 7 ≤ length (after rest) = a.whole in
         let good : L.valid (take L.width (after rest)) ≡ true = ap L.valid (sym a.key) ∙ v in
-        let last : L.valid (take L.width (drop (n * w + 1) bytes)) ≡ true =
-        ap (λ bs. L.valid (take L.width bs)) (sym (drop-drop 1 (n * w) bytes) ∙ ap (drop 1) here) ∙ good in
         let step : commands L total 0 rest ≡ row (row_of L (after rest)) (commands L total 0 r.rest.now) =
         ap (commands L total 0) e ∙ row_whole (after rest) a.whole good
         ∙ ap (λ bs. row (row_of L (after rest)) (commands L total 0 bs)) (sym a.rest) in
@@ -95,7 +79,6 @@ module _ {K : Type 0} (L : Layout K) (total : ℕ) where
               a.rest ∙ ap (λ m. drop m (1 ∷ after rest)) (sym eight) ∙ ap (drop w) (sym here) ∙ drop-drop w (n * w) bytes ∙ ap (λ m. drop m bytes) (sym (suc-mul n w));
           batches = ap (λ rows. batches_from rows (commands L total 0 r.rest.now)) more ∙ sym (ap (batches_from (rows_of L n bytes)) step) ∙ p.batches;
           closing = sym (ap closing_of step) ∙ p.closing;
-          valid = λ m h. ⊎_elim (λ (e : m ≡ n). rw e last) (λ (ne : m ≡ n → ⊥). p.valid m (omega (arith, ne))) (cases_eq m n);
         }
 
     -- the rows passed, from the bytes that hold them
@@ -103,19 +86,6 @@ module _ {K : Type 0} (L : Layout K) (total : ℕ) where
     passed_rows held e =
         let size : length bytes - length rest ≡ p.count * row_width L = omega (arith, passed_length) in
         ap (rows_in L) (e ∙ ap (λ m. take m bytes) size) ∙ rows_in_front L p.count bytes p.inside
-
-    passed_valid : (held : List ℕ) → held ≡ take (length bytes - length rest) bytes → KeysAreValid L held
-    passed_valid held e n h =
-        let w = row_width L in
-        let some : 0 < w = omega arith in
-        let size : length bytes - length rest ≡ p.count * w = omega (arith, passed_length) in
-        let front : held ≡ take (p.count * w) bytes = e ∙ ap (λ m. take m bytes) size in
-        let count : length held / w ≡ p.count = ap (λ m. m / w) (ap length front ∙ length-take-le (p.count * w) bytes p.inside) ∙ mul-div_cancel p.count some in
-        let there : n < p.count = rw count at h in
-        let ends : suc n * w ≤ p.count * w = mul-le-mul_right w there in
-        ap (λ bs. L.valid (take L.width (drop (n * w + 1) bs))) front
-        ∙ ap L.valid (inner_part (n * w + 1) L.width (p.count * w) bytes (omega (arith, ends, suc-mul n w)))
-        ∙ p.valid n there
 
     module _ (fits : length bytes ≤ total) where
       -- 02
@@ -130,7 +100,6 @@ module _ {K : Type 0} (L : Layout K) (total : ℕ) where
                 ∙ sym (ap (λ bs. batches_from (rows_of L p.count bytes) (commands L total 0 bs)) e) ∙ p.batches;
             closing = ap (λ bs. closing_of (commands L total 0 bs)) left ∙ sym (ap (λ bs. closing_of (commands L total 0 bs)) e) ∙ p.closing;
             within = omega (arith, passed_length, ap length e, ap length left);
-            valid = passed_valid batch.rows.now held;
           }
 
       -- 03 after rows closes their batch
@@ -148,7 +117,6 @@ module _ {K : Type 0} (L : Layout K) (total : ℕ) where
                 ∙ p.batches;
             closing = ap (λ bs. closing_of (commands L total 0 bs)) left ∙ p.closing;
             within = omega (arith, passed_length, ap length left);
-            valid = passed_valid batch.rows.now held;
           }
 
       -- 03 with no row before it ends the log
@@ -172,5 +140,4 @@ module _ {K : Type 0} (L : Layout K) (total : ℕ) where
               batches = sym batches_end;
               closing = ap (λ n. let c : Closing = Err (BadCommand n) in c) next ∙ sym (closing_end ∙ too_long (after rest) some);
               within = omega arith;
-              valid = none_valid;
             }

@@ -1,5 +1,5 @@
 -- What is left of a log that is read, from what comes next.
-use Rattle.std.specs.Prelude.{◌≡◌, ℕ, zero, suc, ◌+◌, ◌*◌, ◌/◌, ◌<◌, ◌≤◌, true, List, [], ◌∷◌, length, take, drop, Some, None, Option, Ok, Err, Result}
+use Rattle.std.specs.Prelude.{◌≡◌, ℕ, zero, suc, ◌+◌, ◌/◌, ◌≤◌, List, [], ◌∷◌, length, take, drop, Some, None, Option, Ok, Err, Result}
 use Rattle.rows.specs.declared.row.Row.{Row}
 use Rattle.sources.specs.declared.batch.Batch.{Batch}
 use Rattle.sources.specs.declared.batch.Operands.{Operands}
@@ -28,10 +28,6 @@ rows_of L (suc n) bytes = row_of L (drop 1 bytes) ∷ rows_of L n (drop (row_wid
 abbrev pub rows_in : {K : Type 0} → Layout K → List ℕ → List (Row K)
 rows_in L bytes = rows_of L (length bytes / row_width L) bytes
 
--- the key of each row of such bytes is valid
-abbrev pub KeysAreValid : {K : Type 0} → Layout K → List ℕ → Type 0
-KeysAreValid L bytes = (n : ℕ) → n < length bytes / row_width L → L.valid (take L.width (drop (n * row_width L + 1) bytes)) ≡ true
-
 -- a batch, or none at the end; or a fault
 abbrev pub Coming : Type 0
 Coming = Result (Option Batch) SourceFault
@@ -46,12 +42,7 @@ closing_left L total (Ok (Some batch)) = closing_of (commands L total 0 batch.re
 closing_left L total (Ok None) = Ok tt
 closing_left L total (Err fault) = Err fault
 
--- the bytes of the next batch's rows, and those after it
-abbrev pub next_rows : Coming → List ℕ
-next_rows (Ok (Some batch)) = batch.rows.now
-next_rows (Ok None) = []
-next_rows (Err fault) = []
-
+-- the bytes after the next batch
 abbrev pub rest_of : Coming → List ℕ
 rest_of (Ok (Some batch)) = batch.rest.now
 rest_of (Ok None) = []
@@ -62,4 +53,3 @@ pub record Found {K : Type 0} (L : Layout K) (total : ℕ) (all : Commands K) (c
   pub batches : batches_left L total coming ≡ batches_from [] all
   pub closing : closing_left L total coming ≡ closing_of all
   pub within : length (rest_of coming) ≤ total
-  pub valid : KeysAreValid L (next_rows coming)

@@ -1,5 +1,5 @@
 -- How a kind of key stands in a log, and how numbers stand in bytes: the highest byte first.
-use Rattle.std.specs.Prelude.{◌≡◌, ℕ, zero, suc, ◌/◌, ◌%◌, Bool, true, cond, List, [], ◌∷◌, ◌++◌, length, take, drop, Some, None, Option}
+use Rattle.std.specs.Prelude.{◌≡◌, ℕ, zero, suc, ◌/◌, ◌%◌, Bool, true, List, [], ◌∷◌, ◌++◌, length, take, drop}
 use Rattle.std.specs.Int.Digits.{number_from_digits}
 
 -- a number in so many bytes
@@ -24,10 +24,6 @@ pub record Layout (K : Type 0) : Type 0 where
   pub encoded : K → List ℕ
   -- whether each part of a key fits its bytes, as it always does in code
   pub fits : K → Bool
-
--- the key in bytes, if they are a key's
-abbrev pub key_in : {K : Type 0} → Layout K → List ℕ → Option K
-key_in L bytes = cond (L.valid bytes) (Some (L.decoded bytes)) None
 
 -- the bytes of a key are as many as they should be, valid, and give the key again
 pub record ReadsBack {K : Type 0} (L : Layout K) (key : K) : Type 0 where

@@ -1,6 +1,6 @@
 ghost use Rattle.std.specs.Prelude.{◌≡◌, ◌+◌, ◌<◌, ◌≤◌, ◌++◌, length, drop, MatchOption};
 ghost use Rattle.sources.specs.Log.{commands};
-ghost use Rattle.sources.specs.Coming.{Apart, Found, KeysAreValid, rows_in};
+ghost use Rattle.sources.specs.Coming.{Apart, Found, rows_in};
 
 use crate::fault::SourceFault;
 use crate::kind::KeyKind;
@@ -73,7 +73,9 @@ pub(crate) fn next_batch<F: KeyKind>(bytes: &[u8], total: usize) -> Coming<'_>
         match *command {
             ROW => {
                 let row = take_apart::<F>(after).ok_or(SourceFault::RunsOut(place))?;
-                F::read(row.key).ok_or(SourceFault::BadPresence(place))?;
+                if !F::is_valid(row.key) {
+                    return Err(SourceFault::BadPresence(place));
+                }
                 rest = row.rest;
             }
             CLOSE => return Ok(Some(Batch { rows, rest: after })),
@@ -96,8 +98,7 @@ pub(crate) fn row_count<F: KeyKind>(rows: &[u8]) -> usize
 
 // Writes a batch's rows to the start of the memory.
 pub(crate) fn write_rows<F: KeyKind>(rows: &[u8], memory: &mut [Row<F::Key>])
-    requires room { length (rows_in F.KeyKind.layout rows.now) ≤ length memory.old }
-    requires valid { KeysAreValid F.KeyKind.layout rows.now }
+    requires { length (rows_in F.KeyKind.layout rows.now) ≤ length memory.old }
     ensures { memory.new ≡ rows_in F.KeyKind.layout rows.now ++ drop (length (rows_in F.KeyKind.layout rows.now)) memory.old }
 {
     let mut rest = rows;
@@ -106,11 +107,8 @@ pub(crate) fn write_rows<F: KeyKind>(rows: &[u8], memory: &mut [Row<F::Key>])
         let Some(row) = take_apart::<F>(after) else {
             unreachable()
         };
-        let Some(key) = F::read(row.key) else {
-            unreachable()
-        };
         *slot = Row {
-            key,
+            key: F::decode(row.key),
             reading: row.reading,
         };
         rest = row.rest;

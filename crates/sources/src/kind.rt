@@ -1,5 +1,5 @@
 ghost use Rattle.std.specs.Prelude.{◌≡◌, ℕ, ◌<◌, true};
-ghost use Rattle.sources.specs.Layout.{Layout, ReadsBack, key_in};
+ghost use Rattle.sources.specs.Layout.{Layout, ReadsBack};
 ghost use Rattle.sources.specs.Keys.{frames, labels, good_presence, all_zero};
 ghost use Rattle.std.proofs.Common.{rules};
 
@@ -26,20 +26,10 @@ pub trait KeyKind {
     fn is_valid(bytes: &[u8]) -> bool
         ensures { result ≡ layout.valid bytes.now };
 
-    // The key in bytes that are a key's. It answers for all bytes and cannot fail, so it stands beside the test.
+    // The key in bytes that are a key's. It answers for all bytes: a key that was found valid is not tested
+    // again, and taking a batch cannot fail by its keys.
     fn decode(bytes: &[u8]) -> Self::Key
         ensures { result ≡ layout.decoded bytes.now };
-
-    // The key in the bytes; none where they are not a key's.
-    fn read(bytes: &[u8]) -> Option<Self::Key>
-        ensures { result ≡ key_in layout bytes.now }
-    {
-        if Self::is_valid(bytes) {
-            Some(Self::decode(bytes))
-        } else {
-            None
-        }
-    }
 
     ghost code_is: { CODE ≡ layout.code };
 

@@ -1,7 +1,7 @@
 ghost use Rattle.std.specs.Prelude.{◌≡◌, ◌≤◌, length};
 ghost use Rattle.sources.specs.Log.{commands_of, log_batches, log_closing};
 ghost use Rattle.sources.specs.Written.{AsWritten};
-ghost use Rattle.sources.specs.Coming.{Found, KeysAreValid, next_rows, rest_of, batches_left, closing_left};
+ghost use Rattle.sources.specs.Coming.{Found, rest_of, batches_left, closing_left};
 
 use crate::batch::{Coming, HEADER, next_batch, row_count, write_rows};
 use crate::fault::SourceFault;
@@ -12,12 +12,11 @@ use rows::row::Row;
 // A log that is read batch by batch. The bytes of a batch are gone over twice: once to count and check its rows, when it
 // becomes the next one, and once to take them.
 #[derive(Drop)]
-pub struct Log<'a, F: KeyKind> {
+pub struct Log<'a, F> {
     kind: F,
     total: usize,
     coming: Coming<'a>,
     ghost within: { length (rest_of coming) ≤ total },
-    ghost valid: { KeysAreValid F.KeyKind.layout (next_rows coming) },
 }
 
 impl<'a, F: KeyKind> Log<'a, F> {

@@ -1,6 +1,5 @@
-use Rattle.std.proofs.Common.{◌≡◌, Some, refl, rules}
-use Rattle.sources.specs.Layout.{key_in}
-use Rattle.sources.proofs.Scan.{passed_more, found_closed, found_last, found_more, valid_where_read}
+use Rattle.std.proofs.Common.{refl, rules}
+use Rattle.sources.proofs.Scan.{passed_more, found_closed, found_last, found_more}
 use Rattle.sources.proofs.batch.next_batch.Goals as goal
 
 pub returns-in-2 : goal.returns-in-2
@@ -19,7 +18,5 @@ pub loop-rest-preserved : goal.loop-rest-preserved
 loop-rest-preserved g c =
     let L = g.F.KeyKind.layout in
     let row = c.in_ok-row-in-1.row in
-    let key = c.in_ok-ok_or-in-1.field-0 in
-    let read : Some key ≡ key_in L row.key.now = cc (c.in_ok-ok_or-in-1.ensures.ok_part, c.read.ensures) in
     passed_more L c.args.total c.args.bytes.now c.loop-rest.rest.now c.loop-rest.invariant (search rules) c.in-1.is row
-    (rw c.in_ok-row-in-1.ensures.ok_part at c.take_apart.ensures) (valid_where_read L row.key.now key read)
+    (rw c.in_ok-row-in-1.ensures.ok_part at c.take_apart.ensures) (search rules)
