@@ -1,5 +1,5 @@
--- Proofs that numbers and lists of bytes keep what a column asks of its values. They stand in specs/ because an order gives the
--- proof of its laws as a member; their statements say all that they do.
+-- Proofs that numbers and lists of bytes keep what a column asks of its values. They stand in specs/ because a column gives
+-- the proof as a member; their statements say all that they do.
 use Rattle.std.specs.Prelude.{◌≡◌, ℕ, ◌≤◌, List, refl}
 use Rattle.std.specs.declared.cmp.Ordering.TheVariants.{Less, Equal, Greater}
 use Rattle.std.specs.declared.cmp.Ordering.{Ordering}

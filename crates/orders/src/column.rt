@@ -1,6 +1,7 @@
 ghost use Rattle.std.specs.Prelude.{◌≡◌, Option as Maybe};
+ghost use Rattle.std.specs.declared.cmp.Ordering.{Ordering as Compared};
 ghost use Rattle.std.specs.Option.{option_map};
-ghost use Rattle.orders.specs.ValueLaws.{total_from};
+ghost use Rattle.orders.specs.Values.{Total};
 ghost use Rattle.orders.specs.Choices.{by_column, column_within, column_across};
 ghost use Rattle.orders.specs.ColumnLaws.{column_laws};
 
@@ -12,14 +13,22 @@ use std::cmp::Ordering;
 pub trait Column {
     type Key;
 
-    // which `cmp` compares, the column running up
-    type Value: Ord;
+    type Value;
 
     // the column's value in a key, none where it is missing
     ghost value: { Self.Key → Maybe Self.Value };
 
+    // how two values compare, the column running up
+    ghost compared: { Self.Value → Self.Value → Compared };
+
+    // what that comparison keeps: each column gives the proof of it
+    ghost total: { Total compared };
+
     fn value_of<'a>(&self, key: &'a Self::Key) -> Option<&'a Self::Value>
         ensures { option_map (λ x. x.now) result ≡ value key.now };
+
+    fn compare(&self, x: &Self::Value, y: &Self::Value) -> Ordering
+        ensures { result ≡ compared x.now y.now };
 }
 
 // The order of one column.
@@ -33,13 +42,13 @@ impl<C: Column> ColumnOrder<C> {
     // Directions and missing values are decided here, which no derive does.
     // Two values of the column, where two missing ones give `both`.
     fn compare(&self, both: Ordering, a: Option<&C::Value>, b: Option<&C::Value>) -> Ordering
-        ensures { result ≡ by_column both self.now.choices.direction self.now.choices.missing C.Value.Ord.cmp (option_map (λ x. x.now) a.entry) (option_map (λ x. x.now) b.entry) }
+        ensures { result ≡ by_column both self.now.choices.direction self.now.choices.missing C.Column.compared (option_map (λ x. x.now) a.entry) (option_map (λ x. x.now) b.entry) }
     {
         match (a, b) {
             (None, None) => both,
             (None, Some(_)) => self.choices.missing_against(),
             (Some(_), None) => self.choices.missing_against().reverse(),
-            (Some(x), Some(y)) => self.choices.directed(x.cmp(y)),
+            (Some(x), Some(y)) => self.choices.directed(self.column.compare(x, y)),
         }
     }
 }
@@ -47,9 +56,9 @@ impl<C: Column> ColumnOrder<C> {
 impl<C: Column> KeyOrder for ColumnOrder<C> {
     type Key = C::Key;
 
-    ghost within = { λ o a b. column_within o.choices C.Value.Ord.cmp (C.Column.value a) (C.Column.value b) };
+    ghost within = { λ o a b. column_within o.choices C.Column.compared (C.Column.value a) (C.Column.value b) };
 
-    ghost across = { λ o a b. column_across o.choices C.Value.Ord.cmp (C.Column.value a) (C.Column.value b) };
+    ghost across = { λ o a b. column_across o.choices C.Column.compared (C.Column.value a) (C.Column.value b) };
 
     fn compare_within(&self, a: &C::Key, b: &C::Key) -> Ordering {
         self.compare(
@@ -67,5 +76,5 @@ impl<C: Column> KeyOrder for ColumnOrder<C> {
         )
     }
 
-    ghost lawful = { λ o. column_laws o.choices C.Value.Ord.cmp C.Column.value (total_from C.Value.Ord.total) };
+    ghost lawful = { λ o. column_laws o.choices C.Column.compared C.Column.value C.Column.total };
 }

@@ -1,7 +1,10 @@
 ghost use Rattle.std.specs.Prelude.{Some as Present};
+ghost use Rattle.orders.specs.Values.{by_size, by_bytes};
+ghost use Rattle.orders.specs.ValueLaws.{by_size_total, by_bytes_total};
 
 use crate::column::Column;
 use rows::key::{FrameKey, LabelKey};
+use std::cmp::Ordering;
 
 // The node of a frame key, which is never missing.
 #[derive(Clone, Copy)]
@@ -14,8 +17,16 @@ impl Column for NodeColumn {
 
     ghost value = { λ k. Present k.node };
 
+    ghost compared = { by_size };
+
+    ghost total = { by_size_total };
+
     fn value_of<'a>(&self, key: &'a FrameKey) -> Option<&'a u16> {
         Some(&key.node)
+    }
+
+    fn compare(&self, x: &u16, y: &u16) -> Ordering {
+        x.cmp(y)
     }
 }
 
@@ -30,8 +41,16 @@ impl Column for NumberColumn {
 
     ghost value = { λ k. k.number };
 
+    ghost compared = { by_size };
+
+    ghost total = { by_size_total };
+
     fn value_of<'a>(&self, key: &'a FrameKey) -> Option<&'a u32> {
         key.number.as_ref()
+    }
+
+    fn compare(&self, x: &u32, y: &u32) -> Ordering {
+        x.cmp(y)
     }
 }
 
@@ -46,7 +65,15 @@ impl Column for LabelColumn {
 
     ghost value = { λ k. k.label };
 
+    ghost compared = { by_bytes };
+
+    ghost total = { by_bytes_total };
+
     fn value_of<'a>(&self, key: &'a LabelKey) -> Option<&'a [u8; 12]> {
         key.label.as_ref()
+    }
+
+    fn compare(&self, x: &[u8; 12], y: &[u8; 12]) -> Ordering {
+        x.cmp(y)
     }
 }
