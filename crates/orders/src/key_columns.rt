@@ -3,6 +3,7 @@ ghost use Rattle.orders.specs.Values.{by_size, by_bytes};
 ghost use Rattle.orders.specs.ValueLaws.{by_size_total, by_bytes_total};
 
 use crate::column::Column;
+use crate::label::compare_labels;
 use rows::key::{FrameKey, LabelKey};
 use std::cmp::Ordering;
 
@@ -74,6 +75,6 @@ impl Column for LabelColumn {
     }
 
     fn compare(&self, x: &[u8; 12], y: &[u8; 12]) -> Ordering {
-        x.cmp(y)
+        compare_labels(x, y)
     }
 }

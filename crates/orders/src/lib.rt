@@ -6,3 +6,4 @@ pub mod choices;
 pub mod column;
 pub mod key_columns;
 pub mod key_orders;
+pub mod label;
