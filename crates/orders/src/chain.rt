@@ -18,6 +18,8 @@ impl<P: KeyOrder, Q: KeyOrder<Key = P::Key>> KeyOrder for Chain<P, Q> {
 
     ghost across = { λ o. chained (P.KeyOrder.across o.first) (Q.KeyOrder.across o.second) };
 
+    ghost lawful = { λ o. chain_laws (P.KeyOrder.within o.first) (P.KeyOrder.across o.first) (Q.KeyOrder.within o.second) (Q.KeyOrder.across o.second) (P.KeyOrder.lawful o.first) (Q.KeyOrder.lawful o.second) };
+
     // within and across are two questions to an order, each asked of both
     fn compare_within(&self, a: &P::Key, b: &P::Key) -> Ordering {
         self.first
@@ -30,6 +32,4 @@ impl<P: KeyOrder, Q: KeyOrder<Key = P::Key>> KeyOrder for Chain<P, Q> {
             .compare_across(streamed, buffered)
             .then_with(|| self.second.compare_across(streamed, buffered))
     }
-
-    ghost lawful = { λ o. chain_laws (P.KeyOrder.within o.first) (P.KeyOrder.across o.first) (Q.KeyOrder.within o.second) (Q.KeyOrder.across o.second) (P.KeyOrder.lawful o.first) (Q.KeyOrder.lawful o.second) };
 }

@@ -60,6 +60,8 @@ impl<C: Column> KeyOrder for ColumnOrder<C> {
 
     ghost across = { λ o a b. column_across o.choices C.Column.compared (C.Column.value a) (C.Column.value b) };
 
+    ghost lawful = { λ o. column_laws o.choices C.Column.compared C.Column.value C.Column.total };
+
     fn compare_within(&self, a: &C::Key, b: &C::Key) -> Ordering {
         self.compare(
             Ordering::Equal,
@@ -75,6 +77,4 @@ impl<C: Column> KeyOrder for ColumnOrder<C> {
             self.column.value_of(buffered),
         )
     }
-
-    ghost lawful = { λ o. column_laws o.choices C.Column.compared C.Column.value C.Column.total };
 }

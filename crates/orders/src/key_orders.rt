@@ -50,6 +50,8 @@ impl KeyOrder for FrameOrder {
 
     ghost across = { λ o. frame_across o.node o.number };
 
+    ghost lawful = { λ o. frame_laws o.node o.number };
+
     // within and across are two questions to an order
     fn compare_within(&self, a: &FrameKey, b: &FrameKey) -> Ordering {
         self.chain().compare_within(a, b)
@@ -58,8 +60,6 @@ impl KeyOrder for FrameOrder {
     fn compare_across(&self, streamed: &FrameKey, buffered: &FrameKey) -> Ordering {
         self.chain().compare_across(streamed, buffered)
     }
-
-    ghost lawful = { λ o. frame_laws o.node o.number };
 }
 
 // The order of label keys: the one column that they have.
@@ -92,6 +92,8 @@ impl KeyOrder for LabelOrder {
 
     ghost across = { λ o. label_across o.label };
 
+    ghost lawful = { λ o. label_laws o.label };
+
     // as above
     fn compare_within(&self, a: &LabelKey, b: &LabelKey) -> Ordering {
         self.column().compare_within(a, b)
@@ -100,6 +102,4 @@ impl KeyOrder for LabelOrder {
     fn compare_across(&self, streamed: &LabelKey, buffered: &LabelKey) -> Ordering {
         self.column().compare_across(streamed, buffered)
     }
-
-    ghost lawful = { λ o. label_laws o.label };
 }

@@ -14,12 +14,12 @@ pub trait KeyOrder {
     // of a streamed and a buffered key
     ghost across: { Self → Self.Key → Self.Key → Compared };
 
+    // what every order keeps, and the join rests on: each order gives the proof of it
+    ghost lawful: { (o : Self) → Laws (within o) (across o) };
+
     fn compare_within(&self, a: &Self::Key, b: &Self::Key) -> Ordering
         ensures { result ≡ within self.now a.now b.now };
 
     fn compare_across(&self, streamed: &Self::Key, buffered: &Self::Key) -> Ordering
         ensures { result ≡ across self.now streamed.now buffered.now };
-
-    // what every order keeps, and the join rests on: each order gives the proof of it
-    ghost lawful: { (o : Self) → Laws (within o) (across o) };
 }
