@@ -1,4 +1,4 @@
-ghost use Rattle.std.specs.Prelude.{◌≡◌, min, ◌++◌, length, take, drop};
+ghost use Rattle.std.specs.Prelude.{◌≡◌, ◌≤◌, min, ◌++◌, length, take, drop};
 ghost use Rattle.pipeline.specs.Entries.{pair_of};
 ghost use Rattle.pipeline.specs.Held.{holding, run_at, pairs_with};
 ghost use Rattle.pipeline.specs.Orient.{paired};
@@ -57,6 +57,7 @@ impl BufferedData {
     ) -> Stop
         ensures count { result.count ≡ min (length (run_at (holding self.now) from.batch from.row rows.now)) (length out.old) }
         ensures written { out.new ≡ pairs_with kind row place reading (take result.count (run_at (holding self.now) from.batch from.row rows.now)) ++ drop result.count out.old }
+        ensures behind { self.now.count ≤ from.batch → result.position ≡ from }
         ensures left { run_at (holding self.now) result.position.batch result.position.row rows.now ≡ drop result.count (run_at (holding self.now) from.batch from.row rows.now) }
     {
         let known = rows.len().min(self.held);
@@ -64,10 +65,12 @@ impl BufferedData {
         let mut count = 0;
         let mut start = from.row;
         let mut first = self.rows_of(from.batch);
-        let mut position = Position {
+        let end = Position {
             batch: self.count,
             row: 0,
         };
+        // a scan that begins behind the held batches stays where it begins
+        let mut position = if from.batch < self.count { end } else { from };
         'scan: for batch in from.batch..self.count {
             let range = self.batches[batch];
             for at in start..range.end {

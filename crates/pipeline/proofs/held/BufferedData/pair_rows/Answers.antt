@@ -1,9 +1,10 @@
 use Rattle.std.proofs.Common.{◌≡◌, ◌+◌, ◌<◌, ◌≤◌, min, ◌⊎◌, ◌∷◌, length, get_or, take, sym, ap, ◌∙◌, inl, inr, arith, length-take-le}
 use Rattle.pipeline.specs.declared.entry.Entry.{Entry}
+use Rattle.pipeline.specs.declared.pairing.Position.{Position}
 use Rattle.pipeline.specs.Held.{holding, run_at}
 use Rattle.pipeline.proofs.Scanning.{pairs, stays, and_on, took, run_at_end, first_within, next_first, scan_row, scan_next, scan_count, scan_written, scan_left}
 use Rattle.pipeline.proofs.held.BufferedData.pair_rows.Goals as goal
-use Rattle.pipeline.proofs.held.BufferedData.pair_rows.Goals.{then-loop-at-test+then-index-known, else-loop-at-test}
+use Rattle.pipeline.proofs.held.BufferedData.pair_rows.Goals.{then-from-self, else-from-self, then-loop-at-test+then-index-known, else-loop-at-test}
 
 pub overflow_add-index : goal.overflow_add-index
 overflow_add-index g c =
@@ -45,7 +46,7 @@ scan-preserved g c =
       next_first s rows b c.scan.first c.scan.invariant.0 _ c.scan-test.true,
       and_on P c.scan.invariant.1 (and_on P c.loop-at.invariant.0 (stays P c.loop-at.out c.loop-at.count _ _ c.loop-at.invariant.0.within
           (scan_next s rows b c.scan.first c.scan.invariant.0 _ c.scan-test.true r over))),
-      c.loop-at.invariant.1,
+      c.loop-at.invariant.1 ∙ c.scan.invariant.2,
     )
 
 pub returns-after-scan : goal.returns-after-scan
@@ -58,10 +59,16 @@ returns-after-scan g c =
     let to = run_at (holding s) c.scan.batch c.scan.start rows in
     let len : length (take s.count s.batches) ≡ s.count = length-take-le s.count s.batches (omega arith) in
     let end = run_at_end (holding s) rows c.scan.batch c.scan.start (omega (arith, c.scan-test.false)) in
+    let p = c.scan.position in
+    let past : s.count ≤ p.batch = elim c.if-from-self.branch [
+      | then-from-self w ↦ let e = ap (λ (q : Position). q.batch) (c.scan.invariant.2 ∙ w.position-is) in omega arith
+      | else-from-self w ↦ let e = ap (λ (q : Position). q.batch) (c.scan.invariant.2 ∙ w.position-is) in omega arith
+    ] in
     record {
       count = scan_count c.args.kind c.args.row c.args.place c.args.reading out c.scan.out n from to c.scan.invariant.1 (inr end);
       written = scan_written c.args.kind c.args.row c.args.place c.args.reading out c.scan.out n from to c.scan.invariant.1;
-      left = ap (λ p. run_at (holding s) p.batch p.row rows) c.scan.invariant.2 ∙ run_at_end (holding s) rows s.count 0 (omega arith) ∙ sym end ∙ scan_left c.args.kind c.args.row c.args.place c.args.reading out c.scan.out n from to c.scan.invariant.1;
+      behind = elim c.if-from-self.branch [ then-from-self w ↦ λ k. absurd (omega arith) | else-from-self w ↦ λ _. c.scan.invariant.2 ∙ w.position-is ];
+      left = run_at_end (holding s) rows p.batch p.row (omega arith) ∙ sym end ∙ scan_left c.args.kind c.args.row c.args.place c.args.reading out c.scan.out n from to c.scan.invariant.1;
     }
 
 pub returns-then-count-out : goal.returns-then-count-out
@@ -78,5 +85,6 @@ returns-then-count-out g c =
     record {
       count = scan_count c.args.kind c.args.row c.args.place c.args.reading out c.loop-at.out n from to goes (inl full);
       written = scan_written c.args.kind c.args.row c.args.place c.args.reading out c.loop-at.out n from to goes;
+      behind = λ k. absurd (omega arith);
       left = scan_left c.args.kind c.args.row c.args.place c.args.reading out c.loop-at.out n from to goes;
     }
