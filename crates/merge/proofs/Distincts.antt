@@ -17,6 +17,10 @@ module _ {A : Type 0} where
   distinct_append [] b h k f = k
   distinct_append (x ∷ a) b h k f = (All-append _ a b h.0 f.0, distinct_append a b h.1 k f.1)
 
+  -- what P holds of and what Q holds of are never the same
+  pub apart : (P Q : A → Type 0) (a b : List A) → ((x y : A) → P x → Q y → x ≢ y) → AllByRecursion P a → AllByRecursion Q b → AllByRecursion (λ x. AllByRecursion (λ y. x ≢ y) b) a
+  apart P Q a b f h k = All-weaker P _ (λ x p. All-weaker Q _ (λ y q. f x y p q) b k) a h
+
   pub all_front : (P : A → Type 0) (a b : List A) → AllByRecursion P (a ++ b) → AllByRecursion P a
   all_front P [] b h = tt
   all_front P (x ∷ a) b h = (h.0, all_front P a b h.1)
