@@ -1,6 +1,6 @@
 -- The rows of a batch whose pairs all failed, one by one.
-use Rattle.std.proofs.Common.{◌≡◌, ℕ, zero, suc, ◌+◌, ◌<◌, true, false, cond, List, [], ◌∷◌, ◌++◌, length, take, drop, set, Some, sym, refl, ap, ◌∙◌, append_assoc, suc-add, zero-add, arith}
-use Rattle.std.proofs.lemmas.List.{take_more_set}
+use Rattle.std.proofs.Common.{◌≡◌, ℕ, zero, suc, ◌+◌, ◌<◌, ◌≤◌, true, false, cond, List, [], ◌∷◌, ◌++◌, length, take, drop, set, Some, sym, refl, ap, ◌∙◌, append_assoc, append-nil, suc-add, zero-add, arith}
+use Rattle.std.proofs.lemmas.List.{take_more_set, take_at, take_all, drop_all, length-take-le}
 use Rattle.rows.specs.declared.kind.Kind.{Kind}
 use Rattle.pipeline.specs.declared.entry.Entry.{Entry}
 use Rattle.pipeline.specs.declared.states.FilterState.{FilterState}
@@ -65,3 +65,16 @@ module _ (kind : Kind) (j i : ℕ) (l : List FilterState) (out : List Entry) (co
   pub failed_skip : all_failed (state_at i l) ≡ false → take count out ++ failed kind (j + (i + 1)) (drop (i + 1) l) ≡ failed kind j l
   failed_skip none =
       ap (λ r. take count out ++ r) (sym (failed_more kind j i l ∙ ap (λ t. cond t (lone (buffered_alone kind (j + i)) ∷ []) [] ++ failed kind (j + (i + 1)) (drop (i + 1) l)) none)) ∙ inv
+
+  -- the space is full
+  pub failed_full : count ≡ length out → take count out ≡ take (length out) (failed kind j l)
+  failed_full full =
+      let long : length (take count out) ≡ length out = length-take-le count out (omega arith) ∙ full in
+      sym (ap (take (length out)) (sym inv) ∙ take_at (take count out) (failed kind (j + i) (drop i l)) (length out) long)
+
+  -- every row was seen
+  pub failed_all : length l ≤ i → count ≤ length out → take count out ≡ take (length out) (failed kind j l)
+  failed_all past fits =
+      let whole : take count out ≡ failed kind j l = sym (append-nil (take count out)) ∙ ap (λ r. take count out ++ failed kind (j + i) r) (sym (drop_all i l past)) ∙ inv in
+      let long : length (failed kind j l) ≤ length out = omega (arith, ap length whole, length-take-le count out fits) in
+      whole ∙ sym (take_all (length out) (failed kind j l) long)

@@ -1,5 +1,6 @@
 -- Lists of which only the first elements count, as of an array that is filled from its start.
-use Rattle.std.proofs.Common.{◌≡◌, ℕ, ◌-◌, ◌<◌, ◌≤◌, min, List, length, get_or, take, drop, set, sym, ap, ◌∙◌, ⊎_elim, zero-le, zero-add, arith, length-drop, length-take, take_all, take-take}
+use Rattle.std.proofs.Common.{◌≡◌, ℕ, ◌+◌, ◌-◌, ◌<◌, ◌≤◌, min, List, ◌++◌, length, get_or, take, drop, set, replicate, sym, ap, ◌∙◌, ⊎_elim, zero-le, zero-add, arith, length-drop, length-take, take_all, take-take}
+use lib.ListN.{length-replicate}
 use lib.Seq.{paste, set-get_or}
 use Rattle.std.proofs.lemmas.List.Edits.{take-paste}
 use Rattle.std.proofs.lemmas.List.{drop_all}
@@ -8,6 +9,13 @@ use Rattle.std.proofs.lemmas.Bool.{cases_lt}
 
 pub set_same : {X : Type 0} (l : List X) (i : ℕ) (d x : X) → x ≡ get_or l i d → set l i x ≡ l
 set_same l i d x e = ap (set l i) e ∙ set-get_or l i d
+
+-- the first elements after i behind them were written
+pub filled_behind : {X : Type 0} (l l' : List X) (at at' n i : ℕ) (y : X) → at ≤ length l → at' ≡ at → l' ≡ paste l at (replicate i y) i → i ≡ n → take (at' + n) l' ≡ take at l ++ replicate n y
+filled_behind l l' at at' n i y h p q e =
+    let long : length (replicate n y) ≡ n = length-replicate n y in
+    ap (λ a. take (a + n) l') p ∙ ap (take (at + n)) q ∙ ap (λ j. take (at + n) (paste l at (replicate j y) j)) e
+    ∙ take-paste l at (replicate n y) n h (omega arith) ∙ ap (λ t. take at l ++ t) (take_all n (replicate n y) (omega arith))
 
 -- the first elements after those behind the first k of n moved to the front
 pub moved_to_front : {X : Type 0} (l l' : List X) (k n : ℕ) → n ≤ length l → l' ≡ paste l 0 (drop k l) (n - k) → take (n - k) l' ≡ drop k (take n l)

@@ -1,9 +1,9 @@
 -- The numbers of the queue over the block, and what they show.
-use Rattle.std.proofs.Common.{◌≡◌, ℕ, zero, suc, ◌+◌, ◌-◌, ◌<◌, ◌≤◌, Bool, true, false, cond, ◌&&◌, eqb, ltb, leb, List, [], ◌∷◌, ◌++◌, reverse, length, get_or, take, drop, set, sym, refl, ap, ◌∙◌, subst, Result, Ok, append_assoc, arith, take-add}
+use Rattle.std.proofs.Common.{◌≡◌, ℕ, zero, suc, ◌+◌, ◌-◌, ◌<◌, ◌≤◌, Bool, true, false, cond, ◌&&◌, eqb, ltb, leb, List, [], ◌∷◌, ◌++◌, reverse, length, get_or, take, drop, set, sym, refl, ap, ◌∙◌, subst, ⊎_elim, Result, Ok, append_assoc, arith, take-add}
 use borrow.Rule.Slice.PartMut.{put_mid, same_len_mid}
 use Rattle.std.proofs.lemmas.List.{length-set, length-take, length-take-le, length-drop, length-append, length-reverse, take-take, drop-take, drop-drop, drop-set-lt, drop-set-add, drop-set, take-set-le, take_more_set, take-append-le, take_at, drop_at, reverse-append, reverse-reverse, drop_more, drop_all}
 use Rattle.std.proofs.lemmas.Slice.{take-put_mid, take-put_mid_below, drop-put_mid}
-use Rattle.std.proofs.lemmas.Bool.{and_parts, ltb-true, and_from, eqb-true, leb-true, eq-eqb, le-leb, true≢false}
+use Rattle.std.proofs.lemmas.Bool.{and_parts, and_cases, ltb-true, ltb-false, and_from, eqb-true, leb-true, eq-eqb, le-leb, true≢false}
 use Rattle.rows.specs.declared.kind.Kind.{Kind}
 use Rattle.rows.specs.declared.reading.Reading.{Reading}
 use Rattle.rows.specs.declared.record.Record.{Record}
@@ -141,6 +141,15 @@ module _ (q : Queue) (block : List Entry) where
 
   pub due_some : (ltb 0 q.due && ltb q.next (length block)) ≡ true → 0 < q.due
   due_some is = ltb-true 0 q.due (and_parts (ltb 0 q.due) (ltb q.next (length block)) is).0
+
+  pub due_none : (ltb 0 q.due && ltb q.next (length block)) ≡ false → (queued q block).due ≡ []
+  due_none not = ⊎_elim
+      (λ none. ap (λ n. records (take n (drop q.next block))) (zero_of q.due (ltb-false 0 q.due none)))
+      (λ past. ap (λ l. records (take q.due l)) (drop_all q.next block (ltb-false q.next (length block) past)) ∙ none_taken q.due)
+      (and_cases (ltb 0 q.due) (ltb q.next (length block)) not)
+    where
+      zero_of : (n : ℕ) → n ≤ 0 → n ≡ 0
+      zero_of n h = omega arith
 
 -- what is left of the frozen, in front, becomes due
 pub due_step : (step : Queued → Queued) (q q' : Queue) (block ys left : List Entry) (r k : ℕ)

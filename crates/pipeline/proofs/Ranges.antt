@@ -92,6 +92,9 @@ rows_of_split (suc k) (x ∷ l) = let e = rows_of_split k l in omega arith
 pub rows_behind : (k r n : ℕ) (l : List BufferedBatch) → r ≡ rows_of (take k l) → rows_of l ≡ n → rows_of (drop k l) ≡ n - r
 rows_behind k r n l e f = let split = rows_of_split k l in omega arith
 
+pub counted : (i a b n : ℕ) → a ≡ suc b → i + a ≡ n → (i + 1) + b ≡ n
+counted i a b n e f = omega arith
+
 rows_of_from : (l : List BufferedBatch) → rows_of l ≡ sum_by (λ b. b.rows) l
 rows_of_from [] = refl
 rows_of_from (x ∷ l) = ap (λ n. x.rows + n) (rows_of_from l) ∙ sym (sum_by-cons (λ (b : BufferedBatch). b.rows) x l)
