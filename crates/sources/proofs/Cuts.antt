@@ -1,7 +1,8 @@
 -- Rows cut every n rows.
-use Rattle.std.proofs.Common.{◌≡◌, ℕ, zero, suc, ◌+◌, ◌<◌, ◌≤◌, max, List, [], ◌∷◌, ◌++◌, length, take, drop, Some, Ok, sym, refl, ap, ◌∙◌, arith, length-drop, length-take}
+use Rattle.std.proofs.Common.{◌≡◌, ℕ, zero, suc, ◌+◌, ◌<◌, ◌≤◌, min, max, List, [], ◌∷◌, ◌++◌, length, take, drop, Some, Option, Ok, Result, sym, refl, ap, ◌∙◌, arith, length-drop, length-take}
 use Rattle.std.specs.List.{flat_map}
 use Rattle.std.proofs.lemmas.List.{take-append-drop, length-append, take_at, drop_at, take_min, drop_min}
+use Rattle.sources.specs.declared.fault.SourceFault.{SourceFault}
 use Rattle.sources.specs.Meaning.{upcoming}
 use Rattle.sources.specs.Memory.{first_cut, cut, Filled, CutEvery}
 
@@ -91,6 +92,11 @@ module _ {A : Type 0} where
   cuts_only every rows other o =
       let c = cuts_every every rows in
       only (max every 1) other (cut every rows) (omega arith) o.filled c.filled (o.whole ∙ sym c.whole)
+
+  -- the size of the next batch
+  pub coming : (every : ℕ) (rows : List A) (n : ℕ) → 0 < length rows → n ≡ min (length rows) (max every 1) → Ok (Some n) ≡ upcoming (cut every rows) (Ok tt)
+  coming every rows n h e =
+      rw (cut_more every rows h) (ap (λ k. let r : Result (Option ℕ) SourceFault = Ok (Some k) in r) (let t = length-take (max every 1) rows in omega arith))
 
   -- what the next batch is, where it has n rows
   pub record First (every : ℕ) (rows : List A) (n : ℕ) : Type 0 where

@@ -1,4 +1,5 @@
 pub mod Cuts
+pub mod Moves
 pub mod Takes
 pub mod Presence
 pub mod Rows
