@@ -1,6 +1,6 @@
 -- How a turn compares the streamed row with the run, read off the tables.
 use Rattle.std.proofs.Common.{◌≡◌, ℕ, ◌+◌, ◌<◌, ◌≤◌, Bool, true, false, cond, List, length, get_or, take, Some, None, Option, Ordering, sym, refl, ap, ◌∙◌, arith}
-use Rattle.std.proofs.lemmas.List.{length-take-le, get_or-take}
+use Rattle.std.proofs.lemmas.List.{length-take, get_or-take}
 use Rattle.std.proofs.lemmas.Option.{slice_get_read, none-some}
 use Rattle.std.proofs.lemmas.Bool.{le-leb, cond-true}
 use Rattle.pipeline.specs.Block.{queued}
@@ -11,15 +11,16 @@ use Rattle.join.specs.declared.phase.Phase.TheVariants.{Turning}
 use Rattle.machine.specs.Machine.{Setting, Phase, Outcome, going, core, turning as turning_phase, marked_by, flush, deferred, step, step_of, row_at, run_head, comparison, has_batch}
 use Rattle.join.specs.declared.state.Join.{Join}
 use Rattle.join.specs.Shows.{Memory, core_of, phase_of, streamed_of, buffered_of, counts_of, compared_as, flushed, turned}
+use Rattle.join.proofs.Settling.{roomy_of}
 
 -- a row of the first k
-pub row_taken : {A : Type 0} (n k : ℕ) (l : List A) (x : A) → n < k → k ≤ length l → x ≡ get_or l n x → row_at n (take k l) ≡ Some x
-row_taken n k l x within long is = slice_get_read (take k l) k n x (sym (length-take-le k l long)) within (is ∙ sym (get_or-take k l n x within))
+pub row_taken : {A : Type 0} (n k : ℕ) (l : List A) (x : A) → n < k → n < length l → x ≡ get_or l n x → row_at n (take k l) ≡ Some x
+row_taken n k l x within long is = slice_get_read (take k l) (length (take k l)) n x refl (omega (arith, length-take k l)) (is ∙ sym (get_or-take k l n x within))
 
 module _ {K : Type 0} (c : Setting K) (j : Join K) (m : Memory K) (size : c.size ≡ j.limits.batch) where
   waiting : length m.block ≡ j.limits.block → length (queued j.queue m.block).frozen + length (queued j.queue m.block).unfrozen ≡ j.queue.frozen + j.queue.unfrozen
   waiting long =
-      let n = counts j.queue m.block (record { held = omega (arith, j.room, j.limits.room, long); front = omega (arith, j.front, long) }) in
+      let n = counts j.queue m.block (roomy_of j m.block long) in
       omega (arith, n.1, n.2)
 
   -- a batch waits in the block: it is emptied first

@@ -4,13 +4,40 @@ use Rattle.std.proofs.lemmas.List.{take_at}
 use Rattle.std.proofs.lemmas.Bool.{leb-true}
 use Rattle.rows.specs.declared.row.Row.{Row}
 use Rattle.rows.specs.Sides.{streamed_side, buffered_side}
+use Rattle.sources.specs.declared.fault.SourceFault.{SourceFault}
 use Rattle.sources.specs.Meaning.{Closing, upcoming, take_of, Took}
 use Rattle.sources.proofs.Takes.{takes_first}
-use Rattle.pipeline.specs.Block.{Queued}
-use Rattle.machine.specs.Machine.{Setting, Streamed, Buffered, Counts, Phase, fetching, core, Outcome, going, most_rows, streamed_read, buffered_read, disorder, stops, after_fetch, fetch_taken, fetch_from, skipped, at_end, load_from, load_checked, passed_over, most_batches}
+use Rattle.pipeline.specs.declared.entry.Entry.{Entry}
+use Rattle.pipeline.specs.Block.{Queued, freeze}
+use Rattle.machine.specs.Machine.{Setting, Streamed, Buffered, Counts, Phase, fetching, core, Outcome, going, most_rows, streamed_read, buffered_read, deferred, let_go, marked_by, disorder, stops, after_fetch, fetch_taken, fetch_from, skipped, at_end, load_from, load_checked, passed_over, most_batches}
 use Rattle.join.specs.declared.load.LoadFault.{LoadFault}
 use Rattle.join.specs.declared.load.LoadFault.TheVariants.{TableFull, TooManyBatches, TooManyRows, Source}
 use Rattle.join.specs.Loads.{on_side, checked}
+
+-- the answer to the checks of a batch that has rows
+abbrev verdict : (places no_batches rows : Bool) → ℕ → Result (Option ℕ) LoadFault
+verdict places no_batches rows n = cond places (cond no_batches (Err TooManyBatches) (cond rows (Ok (Some n)) (Err TableFull))) (Err TooManyRows)
+
+-- the size that passes the checks is the source's, and no more than the table has space for
+pub checked_is : (x : Result (Option ℕ) SourceFault) (read : ℕ) (full : Bool) (space n : ℕ) → Ok (Some n) ≡ checked x read full space → (x ≡ Ok (Some n)) × (n ≤ space)
+checked_is (Err f) read full space n h = absurd (let z : ◌≡◌ {A = ℕ} 0 1 = cc in omega arith)
+checked_is (Ok None) read full space n h = absurd (let z : ◌≡◌ {A = ℕ} 0 1 = cc in omega arith)
+checked_is (Ok (Some zero)) read full space n h = let z : n ≡ 0 = cc in (cc, omega arith)
+checked_is (Ok (Some (suc k))) read full space n h = go (leb (read + suc k) most_rows) full (leb (suc k) space) refl h
+  where
+    go : (a b s : Bool) → leb (suc k) space ≡ s → Ok (Some n) ≡ verdict a b s (suc k) → (◌≡◌ {A = Result (Option ℕ) SourceFault} (Ok (Some (suc k))) (Ok (Some n))) × (n ≤ space)
+    go true false true is h = let z : n ≡ suc k = cc in (cc, omega (arith, leb-true (suc k) space is))
+    go true false false is h = absurd (let z : ◌≡◌ {A = ℕ} 0 1 = cc in omega arith)
+    go true true s is h = absurd (let z : ◌≡◌ {A = ℕ} 0 1 = cc in omega arith)
+    go false b s is h = absurd (let z : ◌≡◌ {A = ℕ} 0 1 = cc in omega arith)
+
+-- an empty batch is taken and passed over: the memory stays
+pub skipped_stays : {A : Type 0} (read : ℕ) (full : Bool) (space : ℕ) (l : List (List A)) (e : Closing) (m : List A) → Ok (Some 0) ≡ checked (upcoming l e) read full space → (take_of l e m).memory ≡ m
+skipped_stays read full space [] e m h = refl
+skipped_stays {A} read full space ([] ∷ l) e m h = ap (λ (w : Took A). w.memory) (takes_first ([] ∷ l) e m [] l refl (omega arith))
+skipped_stays read full space ((x ∷ r) ∷ l) e m h =
+    let is = (checked_is (Ok (Some (suc (length r)))) read full space 0 h).0 in
+    let z : suc (length r) ≡ 0 = cc is in absurd (omega arith)
 
 -- A load: what it comes to at the end, at a fault, past a batch without rows, and with a batch's rows.
 module _ {A X : Type 0} (read : ℕ) (full : Bool) (space : ℕ) (over : X) (failing : LoadFault → X) (skips : List (List A) → X) (takes : List A → List (List A) → X) where
@@ -30,18 +57,20 @@ module _ {A X : Type 0} (read : ℕ) (full : Bool) (space : ℕ) (over : X) (fai
   told (Ok (Some zero)) t = skips t.left
   told (Ok (Some (suc n))) t = takes (take (suc n) t.memory) t.left
 
-  pub loading_told : (l : List (List A)) (e : Closing) (m : List A) → space ≤ length m → loading l e ≡ told (checked (upcoming l e) read full space) (take_of l e m)
+  -- of the memory it asks that it has room for a batch that is taken, and nothing where none is
+  pub loading_told : (l : List (List A)) (e : Closing) (m : List A) → ((k : ℕ) → Ok (Some (suc k)) ≡ checked (upcoming l e) read full space → suc k ≤ length m)
+      → loading l e ≡ told (checked (upcoming l e) read full space) (take_of l e m)
   loading_told [] (Ok end) m fits = refl
   loading_told [] (Err f) m fits = refl
   loading_told ([] ∷ l) e m fits = ap (λ (w : Took A). skips w.left) (sym (takes_first ([] ∷ l) e m [] l refl (omega arith)))
-  loading_told ((x ∷ r) ∷ l) e m fits = go (leb (read + suc (length r)) most_rows) full (leb (suc (length r)) space) refl
+  loading_told ((x ∷ r) ∷ l) e m fits = go (leb (read + suc (length r)) most_rows) full (leb (suc (length r)) space) fits
     where
       all : Took A
       all = take_of ((x ∷ r) ∷ l) e m
 
-      go : (a b s : Bool) → leb (suc (length r)) space ≡ s → by_checks a b s x r l ≡ told (cond a (cond b (Err TooManyBatches) (cond s (Ok (Some (suc (length r)))) (Err TableFull))) (Err TooManyRows)) all
+      go : (a b s : Bool) → ((k : ℕ) → Ok (Some (suc k)) ≡ verdict a b s (suc (length r)) → suc k ≤ length m) → by_checks a b s x r l ≡ told (verdict a b s (suc (length r))) all
       go true false true h =
-          let t = takes_first ((x ∷ r) ∷ l) e m (x ∷ r) l refl (omega (arith, leb-true (suc (length r)) space h)) in
+          let t = takes_first ((x ∷ r) ∷ l) e m (x ∷ r) l refl (h (length r) refl) in
           ap (λ (y : List A). takes y l) (sym (take_at (x ∷ r) (drop (length (x ∷ r)) m) (suc (length r)) refl))
           ∙ ap (λ (w : Took A). takes (take (suc (length r)) w.memory) w.left) (sym t)
       go true false false h = refl
@@ -56,6 +85,30 @@ module _ {K : Type 0} (c : Setting K) (st : Streamed K) (bf : Buffered K) (q : Q
   fetch_is first [] (Err f) = refl
   fetch_is first ([] ∷ l) e = refl
   fetch_is first ((x ∷ r) ∷ l) e = refl
+
+  abbrev failing : LoadFault → Outcome K
+  failing f = stops c (on_side f (streamed_side c.kind) (streamed_read st)) st bf q n
+
+  -- a batch that has rows: the unfrozen freeze before it is taken
+  pub fetch_freezes : (first : Bool) (l : List (List (Row K))) (e : Closing) (k : ℕ) → checked (upcoming l e) (streamed_read st) false c.streamed_table ≡ Ok (Some (suc k)) → 1 ≤ length q.unfrozen
+      → fetch_from c first l e st bf q n ≡ going (core st (marked_by c.kind c.asks q bf) (let_go (deferred c) (freeze c.asks q)) n (fetching first))
+  fetch_freezes first [] (Ok end) k h u = absurd (let z : ◌≡◌ {A = ℕ} 0 1 = cc in omega arith)
+  fetch_freezes first [] (Err f) k h u = absurd (let z : ◌≡◌ {A = ℕ} 0 1 = cc in omega arith)
+  fetch_freezes first ([] ∷ l) e k h u = absurd (let z : 0 ≡ suc k = cc in omega arith)
+  fetch_freezes first ((x ∷ r) ∷ l) e k h u = go (leb (streamed_read st + suc (length r)) most_rows) (leb (suc (length r)) c.streamed_table) h (some q.unfrozen u)
+    where
+      frozen : Outcome K
+      frozen = going (core st (marked_by c.kind c.asks q bf) (let_go (deferred c) (freeze c.asks q)) n (fetching first))
+
+      some : (es : List Entry) → 1 ≤ length es → fetch_taken c es first (x ∷ r) l st bf q n ≡ frozen
+      some [] h = absurd (omega arith)
+      some (y ∷ es) h = refl
+
+      go : (a b : Bool) → verdict a false b (suc (length r)) ≡ Ok (Some (suc k)) → fetch_taken c q.unfrozen first (x ∷ r) l st bf q n ≡ frozen
+          → cond a (cond b (fetch_taken c q.unfrozen first (x ∷ r) l st bf q n) (failing TableFull)) (failing TooManyRows) ≡ frozen
+      go true true h t = t
+      go true false h t = absurd (let z : ◌≡◌ {A = ℕ} 0 1 = cc in omega arith)
+      go false b h t = absurd (let z : ◌≡◌ {A = ℕ} 0 1 = cc in omega arith)
 
   -- The same of the buffered side. `full` says that no batch more can be held, and `space` is what the table has left.
   pub load_is : (over : Outcome K) (ph : Phase K) (full : Bool) (space : ℕ) → leb (suc (length bf.holding.batches)) most_batches ≡ not full → ((k : ℕ) → leb (bf.holding.held + k) c.buffered_table ≡ leb k space)

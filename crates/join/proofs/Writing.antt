@@ -1,7 +1,8 @@
 -- The machine's step on a streamed row and what is left to pair with it, by what stands written in the block.
-use Rattle.std.proofs.Common.{◌≡◌, ℕ, ◌+◌, ◌-◌, ◌<◌, ◌≤◌, min, List, ◌++◌, length, get_or, take, drop, Some, sym, refl, ap, ◌∙◌, arith}
+use Rattle.std.proofs.Common.{◌≡◌, ℕ, ◌+◌, ◌-◌, ◌<◌, ◌≤◌, min, List, ◌++◌, length, get_or, take, drop, Some, Option, sym, refl, ap, ◌∙◌, arith}
 use borrow.Rule.Slice.PartMut.{put_mid}
-use Rattle.std.proofs.lemmas.List.{length-take-le, length-drop, length-append}
+use Rattle.std.proofs.lemmas.List.{length-take, length-take-le, length-drop, length-append}
+use Rattle.std.proofs.lemmas.Option.{slice_get_past}
 use Rattle.rows.specs.declared.kind.Kind.{Kind}
 use Rattle.rows.specs.declared.row.Row.{Row}
 use Rattle.pipeline.specs.declared.entry.Entry.{Entry}
@@ -13,7 +14,7 @@ use Rattle.pipeline.specs.declared.states.FilterState.{FilterState}
 use Rattle.pipeline.specs.Freezing.{judged_all}
 use Rattle.pipeline.specs.States.{states_of, marking}
 use Rattle.pipeline.proofs.Queues.{room_from, gap_write, put_length, add_step}
-use Rattle.machine.specs.Machine.{Setting, Phase, Streamed, Buffered, Counts, Outcome, let_go, deferred, going, core, pairing, passing, freeze_full, pair_row, step, step_of, row_at}
+use Rattle.machine.specs.Machine.{Setting, Phase, Streamed, Buffered, Counts, Outcome, let_go, deferred, going, core, pairing, passing, with_holding, freeze_full, pair_row, step, step_of, row_at}
 use Rattle.join.specs.declared.phase.Phase.{Phase as PhaseOf}
 use Rattle.join.specs.declared.phase.Phase.TheVariants.{Pairing}
 use Rattle.join.specs.declared.phase.Pairs.{Pairs}
@@ -54,8 +55,14 @@ module _ {K : Type 0} (c : Setting K) (j : Join K) (m : Memory K) (fits : FitsMe
       ap (λ (ph : PhaseOf). step c (phase_of ph (holding j.buffered) (take j.buffered.held m.buffered)) st bf q n) is_phase
       ∙ ap (λ (l : List (ℕ × Row K)). pair_row c (row_at j.streamed.at (take j.streamed.rows m.streamed)) (take pairs.left l) st bf q n) (run_held j.buffered pairs.batch pairs.row m.buffered)
 
+  -- no streamed row is left
+  pub passes : j.streamed.rows ≤ j.streamed.at → step_of c (core_of j m) ≡ going (core st bf q n passing)
+  passes past =
+      starts
+      ∙ ap (λ (o : Option (Row K)). pair_row c o (take pairs.left rest) st bf q n) (slice_get_past (take j.streamed.rows m.streamed) j.streamed.at (omega (arith, length-take j.streamed.rows m.streamed)))
+
   module _ (is_kind : c.kind ≡ j.limits.kind) (is_size : c.size ≡ j.limits.batch) (within : j.streamed.at < j.streamed.rows) (x : Row K) (is_row : x ≡ get_or m.streamed j.streamed.at x)
-      (k : ℕ) (now : k ≡ min (length rest) (min pairs.left (j.limits.batch - j.queue.unfrozen))) (block : List Entry) (shown : queued j.queue block ≡ q) where
+      (k : ℕ) (now : k ≡ min (length rest) (min pairs.left (j.limits.batch - j.queue.unfrozen))) where
     steps : step_of c (core_of j m) ≡ pair_row c (Some x) (take pairs.left rest) st bf q n
     steps = starts ∙ rw (row_taken j.streamed.at j.streamed.rows m.streamed x within (omega arith) is_row) refl
 
@@ -69,19 +76,30 @@ module _ {K : Type 0} (c : Setting K) (j : Join K) (m : Memory K) (fits : FitsMe
         omega arith
 
     -- no row is left to pair
-    pub ends : k ≡ 0 → (d : BufferedData) → holding d ≡ matching (holding j.buffered) → step_of c (core_of j m) ≡ going (core st (known j m (holding d)) (queued j.queue block) n passing)
-    ends none d matched = steps ∙ pairs_end c x (take pairs.left rest) st bf q n (none_left rest pairs.left space k now none (omega arith)) ∙ ap (λ (h : Holding). going (core st (known j m h) q n passing)) (sym matched) ∙ rw shown refl
+    pub ends : k ≡ 0 → step_of c (core_of j m) ≡ going (core st (with_holding c (matching (holding j.buffered)) bf) q n passing)
+    ends none = steps ∙ pairs_end c x (take pairs.left rest) st bf q n (none_left rest pairs.left space k now none (omega arith))
+
+    abbrev after : Kind → List (ℕ × Row K) → List (ℕ × Row K) → Outcome K
+    after kind paired left = freeze_full c (pairing left) st bf (pushed (pairs_with kind (record { batch = j.streamed.first; row = j.streamed.at }) (j.streamed.first + j.streamed.at) x.reading paired) q) n
 
     -- k rows are paired, and the others stay
     pub goes_on : 1 ≤ k → (b r : ℕ) → run_at (holding j.buffered) b r m.buffered ≡ drop k rest
-        → take k (drop (j.queue.frozen + j.queue.unfrozen) block) ≡ pairs_with j.limits.kind (record { batch = j.streamed.first; row = j.streamed.at }) (j.streamed.first + j.streamed.at) x.reading (take k rest)
-        → step_of c (core_of j m) ≡ freeze_full c (pairing (take (pairs.left - k) (run_at (holding j.buffered) b r (take j.buffered.held m.buffered)))) st bf (pushed (take k (drop (j.queue.frozen + j.queue.unfrozen) block)) (queued j.queue block)) n
-    goes_on some b r left there =
+        → step_of c (core_of j m) ≡ after j.limits.kind (take k rest) (take (pairs.left - k) (run_at (holding j.buffered) b r (take j.buffered.held m.buffered)))
+    goes_on some b r left =
         steps ∙ pairs_go_on c x (take pairs.left rest) st bf q n (some_left rest pairs.left space k now some)
-        ∙ rw (space_is, taken_now rest pairs.left space k now, left_over rest pairs.left space k now, run_held j.buffered b r m.buffered, left, there) (ap (λ (kind : Kind). paired kind q) is_kind ∙ ap (paired j.limits.kind) (sym shown))
-      where
-        paired : Kind → Queued → Outcome K
-        paired kind z = freeze_full c (pairing (take (pairs.left - k) (drop k rest))) st bf (pushed (pairs_with kind (record { batch = j.streamed.first; row = j.streamed.at }) (j.streamed.first + j.streamed.at) x.reading (take k rest)) z) n
+        ∙ rw (space_is, taken_now rest pairs.left space k now, left_over rest pairs.left space k now, run_held j.buffered b r m.buffered, left) (ap (λ (kind : Kind). after kind (take k rest) (take (pairs.left - k) (drop k rest))) is_kind)
+
+    module _ (block : List Entry) (shown : queued j.queue block ≡ q) where
+      pub ends_shown : k ≡ 0 → (d : BufferedData) → holding d ≡ matching (holding j.buffered) → step_of c (core_of j m) ≡ going (core st (known j m (holding d)) (queued j.queue block) n passing)
+      ends_shown none d matched = ends none ∙ ap (λ (h : Holding). going (core st (known j m h) q n passing)) (sym matched) ∙ rw shown refl
+
+      pub goes_on_shown : 1 ≤ k → (b r : ℕ) → run_at (holding j.buffered) b r m.buffered ≡ drop k rest
+          → take k (drop (j.queue.frozen + j.queue.unfrozen) block) ≡ pairs_with j.limits.kind (record { batch = j.streamed.first; row = j.streamed.at }) (j.streamed.first + j.streamed.at) x.reading (take k rest)
+          → step_of c (core_of j m) ≡ freeze_full c (pairing (take (pairs.left - k) (run_at (holding j.buffered) b r (take j.buffered.held m.buffered)))) st bf (pushed (take k (drop (j.queue.frozen + j.queue.unfrozen) block)) (queued j.queue block)) n
+      goes_on_shown some b r left there =
+          let todo = take (pairs.left - k) (run_at (holding j.buffered) b r (take j.buffered.held m.buffered)) in
+          goes_on some b r left
+          ∙ rw (← there) (ap (λ (z : Queued). freeze_full c (pairing todo) st bf (pushed (take k (drop (j.queue.frozen + j.queue.unfrozen) block)) z) n) (sym shown))
 
 -- The block, where k of the entries that a part of it has room for were written at that part's start.
 module _ {K : Type 0} (j : Join K) (block es old ys : List Entry) (e k : ℕ) (none_due : j.queue.due ≡ 0) (is_old : length old ≡ e) (is_es : length es ≡ k) (few : k ≤ e) (is_ys : ys ≡ es ++ drop k old)
@@ -178,12 +196,12 @@ module _ {K : Type 0} (j : Join K) (pairs : Pairs) (streamed buffered : List (Ro
 
       pub scan_ends : k ≡ 0 → (held : BufferedData) → holding held ≡ matching (holding j.buffered)
           → step_of c (core_of j m) ≡ going (core (streamed_of j m) (known j m (holding held)) (queued j.queue block') (counts_of j.counts) passing)
-      scan_ends = ends c j m fitting pairs w.phase is_kind is_size w.within row row_is k is_now block' shown
+      scan_ends = ends_shown c j m fitting pairs w.phase is_kind is_size w.within row row_is k is_now block' shown
 
       pub scan_goes_on : 1 ≤ k → (b r : ℕ) → run_at (holding j.buffered) b r buffered ≡ drop k run
           → step_of c (core_of j m) ≡ freeze_full c (pairing (take (pairs.left - k) (run_at (holding j.buffered) b r (take j.buffered.held buffered)))) (streamed_of j m) (buffered_of j m) (pushed (take k (drop behind block')) (queued j.queue block')) (counts_of j.counts)
       scan_goes_on some b r left =
-          goes_on c j m fitting pairs w.phase is_kind is_size w.within row row_is k is_now block' shown some b r left
+          goes_on_shown c j m fitting pairs w.phase is_kind is_size w.within row row_is k is_now block' shown some b r left
           (put_there j block es old ys width k w.ready.none_due is_old is_es few_written w.written fits_part)
 
 -- n entries behind the unfrozen join them, and all is frozen when these reach the batch size.

@@ -1,4 +1,4 @@
-ghost use Rattle.std.specs.Prelude.{◌≡◌};
+ghost use Rattle.std.specs.Prelude.{◌≡◌, ◌+◌, ◌≤◌};
 ghost use Rattle.pipeline.specs.Block.{queued, freeze, freeze_all};
 ghost use Rattle.machine.specs.Machine.{let_go, flush};
 ghost use Rattle.join.specs.Settled.{Idle, Settled, Marked, asked, defers};
@@ -22,7 +22,8 @@ fn defers<F>(judge: &Judge<F>) -> bool
 pub(crate) fn let_frozen_go<F>(queue: &mut Queue, judge: &Judge<F>, block: &mut [Entry])
     requires idle { Idle queue.old block.old }
     requires unfrozen { queue.old.unfrozen ≡ 0 }
-    ensures { Settled (let_go (defers judge.now)) queue.old block.old queue.new block.new }
+    ensures queue { Settled (let_go (defers judge.now)) queue.old block.old queue.new block.new }
+    ensures numbers { (queue.new.frozen ≤ queue.old.frozen) × ((queue.new.unfrozen ≡ 0) × (queue.new.noted ≡ queue.old.noted)) }
 {
     if !defers(judge) {
         let _ = queue.release(block);
@@ -40,6 +41,7 @@ pub(crate) fn freeze_unfrozen<F: Filter>(
     requires { Idle queue.old block.old }
     ensures queue { Settled (λ q. let_go (defers judge.now) (freeze (asked F.says judge.now) q)) queue.old block.old queue.new block.new }
     ensures states { Marked F.says judge.now (queued queue.old block.old) states.old states.new }
+    ensures numbers { (queue.new.frozen ≤ queue.old.frozen + queue.old.unfrozen) × ((queue.new.unfrozen ≡ 0) × (queue.new.noted ≡ queue.old.noted)) }
 {
     let _ = queue.freeze(judge, states, block);
     let_frozen_go(queue, judge, block);
@@ -55,6 +57,7 @@ pub(crate) fn freeze_everything<F: Filter>(
     requires { Idle queue.old block.old }
     ensures queue { Settled (λ q. let_go (defers judge.now) (freeze_all (asked F.says judge.now) q)) queue.old block.old queue.new block.new }
     ensures states { Marked F.says judge.now (queued queue.old block.old) states.old states.new }
+    ensures numbers { (queue.new.frozen ≤ queue.old.frozen + queue.old.unfrozen + queue.old.noted) × ((queue.new.unfrozen ≡ 0) × (queue.new.noted ≡ 0)) }
 {
     let _ = queue.freeze_all(judge, states, block);
     let_frozen_go(queue, judge, block);
@@ -70,6 +73,7 @@ pub(crate) fn flush_all<F: Filter>(
     requires { Idle queue.old block.old }
     ensures queue { Settled (flush (defers judge.now) judge.now.kind (asked F.says judge.now)) queue.old block.old queue.new block.new }
     ensures states { Marked F.says judge.now (queued queue.old block.old) states.old states.new }
+    ensures numbers { (queue.new.frozen ≡ 0) × ((queue.new.unfrozen ≡ 0) × (queue.new.noted ≡ 0)) }
 {
     let _ = queue.freeze_all(judge, states, block);
     if defers(judge) {

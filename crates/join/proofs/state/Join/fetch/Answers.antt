@@ -8,7 +8,7 @@ use Rattle.pipeline.specs.States.{states_of}
 use Rattle.join.specs.Shows.{memory, setting, streamed_of}
 use Rattle.join.specs.Settled.{defers, asked}
 use Rattle.join.proofs.Settling.{settled_as, marked_as}
-use Rattle.join.proofs.Fetching.{fetch_stops, fetch_froze, fetch_used, read_is}
+use Rattle.join.proofs.Fetching.{checked_fits, fetch_stops, fetch_froze, fetch_used, read_is}
 use Rattle.join.proofs.state.Join.fetch.Goals as goal
 
 pub returns-in-Err : goal.returns-in-Err
@@ -21,7 +21,7 @@ returns-in-Err g c =
     record {
       does = λ bl bc bt.
           let m = memory sl sc bl bc c.args.table.now bt c.args.block.now in
-          fetch_stops j c.args.first (g.O.KeyOrder.within o) (g.O.KeyOrder.across o) (asking g.F.Filter.says f) (is_some f) m c.read-read.result c.requires.phase c.requires.table c.read-read.ensures
+          fetch_stops (setting j.limits (g.O.KeyOrder.within o) (g.O.KeyOrder.across o) (asking g.F.Filter.says f) (is_some f)) j c.args.first m c.read-read.result c.requires.phase c.requires.table c.read-read.ensures
           c.in-Err.fault c.streamed_side-side.result c.on.result c.stop.result _
           c.in-Err.ensures c.streamed_side-side.ensures c.on.ensures c.stop.ensures.says (c.stop.ensures.does m);
       limits = c.stop.ensures.limits;
@@ -40,7 +40,7 @@ returns-then-self-gt0 g c =
     let says : Ok (Some n) ≡ checked (upcoming sl sc) c.read-read.result false j.limits.streamed = cc in
     record {
       does = λ bl bc bt.
-          fetch_froze j c.args.first (g.O.KeyOrder.within o) (g.O.KeyOrder.across o) (asking g.F.Filter.says f) (is_some f) (memory sl sc bl bc c.args.table.now bt c.args.block.now) c.read-read.result c.requires.phase c.requires.table c.read-read.ensures
+          fetch_froze (setting j.limits (g.O.KeyOrder.within o) (g.O.KeyOrder.across o) (asking g.F.Filter.says f) (is_some f)) j c.args.first (memory sl sc bl bc c.args.table.now bt c.args.block.now) c.read-read.result c.requires.phase c.requires.table c.read-read.ensures
           n (states_of c.freeze_unfrozen.new.states) (queued c.freeze_unfrozen.new.queue c.freeze_unfrozen.new.block)
           says some c.if-self-gt0.true c.requires.ready.block_length
           (marked_as g.F.Filter.says c.judge-judge.ensures c.freeze_unfrozen.ensures.states).marks (settled_as g.F.Filter.says c.judge-judge.ensures (λ judge q. let_go (defers judge) (freeze (asked g.F.Filter.says judge) q)) c.freeze_unfrozen.ensures.queue).holds;
@@ -65,13 +65,13 @@ returns g c =
     record {
       does = λ bl bc bt.
           let m = memory sl sc bl bc c.args.table.now bt block in
-          fetch_used j c.args.first (g.O.KeyOrder.within o) (g.O.KeyOrder.across o) (asking g.F.Filter.says f) (is_some f) m c.read-read.result c.requires.phase c.requires.table c.read-read.ensures
+          fetch_used (setting j.limits (g.O.KeyOrder.within o) (g.O.KeyOrder.across o) (asking g.F.Filter.says f) (is_some f)) j c.args.first m c.read-read.result c.requires.phase c.requires.table c.read-read.ensures
           n sl' sc' table' c.use_streamed.result _
-          says some (omega (arith, c.if-self-gt0.false)) c.take-2.ensures.left c.take-2.ensures.memory
+          says some (omega (arith, c.if-self-gt0.false)) (omega (arith, checked_fits (upcoming sl sc) c.read-read.result j.limits.streamed n says, c.requires.table)) c.take-2.ensures.left c.take-2.ensures.memory
           (c.use_streamed.ensures.does (setting j.limits (g.O.KeyOrder.within o) (g.O.KeyOrder.across o) (asking g.F.Filter.says f) (is_some f)) (memory sl' sc' bl bc table' bt block) (streamed_of j m) refl refl
           (record {
             closing_same = sym c.take-2.ensures.closes;
-            read_same = read_is j c.args.first (g.O.KeyOrder.within o) (g.O.KeyOrder.across o) (asking g.F.Filter.says f) (is_some f) m c.read-read.result c.requires.phase c.requires.table c.read-read.ensures;
+            read_same = read_is (setting j.limits (g.O.KeyOrder.within o) (g.O.KeyOrder.across o) (asking g.F.Filter.says f) (is_some f)) j c.args.first m c.read-read.result c.requires.phase c.requires.table c.read-read.ensures;
             last_same = refl;
           }));
       limits = c.use_streamed.ensures.limits;
