@@ -28,5 +28,11 @@ fn write_bytes<W: fmt::Write>(bytes: &[u8], f: &mut fmt::Formatter<W>) -> fmt::R
 fn write_byte<W: fmt::Write>(byte: u8, f: &mut fmt::Formatter<W>) -> fmt::Result
     ensures prints { WritesOnOk W.Write.write_str_gives f.old result (hexadecimal (byte ∷ [])) f.new }
 {
-    write!(f, "{byte:02x}")
+    let Some(high) = char::from_digit(u32::from(byte / 16), 16) else {
+        unreachable()
+    };
+    let Some(low) = char::from_digit(u32::from(byte % 16), 16) else {
+        unreachable()
+    };
+    write!(f, "{high}{low}")
 }
