@@ -76,16 +76,23 @@ struct Sides<'a, O: KeyOrder, F: Filter> {
     ghost right_short: { length right.now ≤ 2 ^ 32 },
 }
 
+// What a pair goes through is inlined into the table's caller, where the kind and the filter may be known.
 impl<'a, O: KeyOrder, F: Filter> Sides<'a, O, F> {
-    ghost use Rattle.merge.specs.Nested.{passing, rows_of, is_alone, pairs, lone};
+    ghost use Rattle.merge.specs.Nested.{passing_sides, rows_of, is_alone, pairs, lone};
 
-    // Whether a left and a right row pass: their keys are same across, and the filter lets them through.
-    fn passes(&self, left: &Row<O::Key>, right: &Row<O::Key>) -> bool
-        ensures { result ≡ passing self.now left.now right.now }
+    // Whether a streamed and a buffered row pass: their keys are same across, and the filter lets them through.
+    #[inline(always)]
+    fn passes(&self, streamed: &Row<O::Key>, buffered: &Row<O::Key>) -> bool
+        ensures { result ≡ passing_sides self.now streamed.now buffered.now }
     {
-        let (streamed, buffered) = self.kind.oriented(left, right);
         let across = self.order.compare_across(&streamed.key, &buffered.key);
-        across.is_eq() && lets_through(self.filter, &left.reading, &right.reading)
+        across.is_eq()
+            && match self.kind {
+                Kind::Right => lets_through(self.filter, &buffered.reading, &streamed.reading),
+                Kind::Inner | Kind::Left | Kind::Full => {
+                    lets_through(self.filter, &streamed.reading, &buffered.reading)
+                }
+            }
     }
 
     fn rows_of(&self, side: Side) -> &'a [Row<O::Key>]
@@ -98,12 +105,17 @@ impl<'a, O: KeyOrder, F: Filter> Sides<'a, O, F> {
     }
 
     // Whether a row of a side passes with no row of the other side.
+    #[inline(always)]
     fn is_alone(&self, side: Side, row: &Row<O::Key>) -> bool
         ensures { result ≡ is_alone self.now side row.now }
     {
-        match side {
-            Side::Left => !self.right.iter().any(|right| self.passes(row, right)),
-            Side::Right => !self.left.iter().any(|left| self.passes(left, row)),
+        let kind = self.kind;
+        if side == kind.streamed_side() {
+            let buffered = self.rows_of(kind.buffered_side());
+            !buffered.iter().any(|y| self.passes(row, y))
+        } else {
+            let streamed = self.rows_of(kind.streamed_side());
+            !streamed.iter().any(|x| self.passes(x, row))
         }
     }
 
@@ -114,8 +126,7 @@ impl<'a, O: KeyOrder, F: Filter> Sides<'a, O, F> {
         let (streamed, buffered) = self.kind.oriented(self.left, self.right);
         for (i, x) in streamed.iter().enumerate() {
             for (j, y) in buffered.iter().enumerate() {
-                let (left, right) = self.kind.oriented(x, y);
-                if self.passes(left, right) {
+                if self.passes(x, y) {
                     let (left_place, right_place) = self.kind.oriented(i as u32, j as u32);
                     table.push(Record::Pair(left_place, right_place))?;
                 }
@@ -125,6 +136,7 @@ impl<'a, O: KeyOrder, F: Filter> Sides<'a, O, F> {
     }
 
     // Adds the rows of a side that are alone.
+    #[inline(always)]
     fn add_lone(&self, side: Side, table: &mut Vec<Record>) -> Result<(), AllocError>
         ensures { OnOk result (table.new.items ≡ table.old.items ++ lone self.now side) }
     {
