@@ -24,10 +24,10 @@ pub fn grade(level: i8) -> Option<u8>
 {
     match level {
         Reading::NOT_MEASURED => None,
-        START_1.. => Some(1),
-        START_2.. => Some(2),
-        START_3.. => Some(3),
-        START_4.. => Some(4),
+        _ if level >= START_1 => Some(1),
+        _ if level >= START_2 => Some(2),
+        _ if level >= START_3 => Some(3),
+        _ if level >= START_4 => Some(4),
         _ => Some(5),
     }
 }
