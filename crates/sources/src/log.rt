@@ -56,15 +56,18 @@ impl<'a, F: KeyKind> Source for Log<'a, F> {
     }
 
     fn take(&mut self, memory: &mut [Row<F::Key>]) -> Result<Option<usize>, TakeRefusal> {
-        let Some(batch) = self.coming? else {
-            return Ok(None);
-        };
-        let count = row_count::<F>(batch.rows);
-        if memory.len() < count {
-            return Err(TakeRefusal::TooShort);
+        match self.coming {
+            Ok(Some(batch)) => {
+                let count = row_count::<F>(batch.rows);
+                if memory.len() < count {
+                    return Err(TakeRefusal::TooShort);
+                }
+                write_rows::<F>(batch.rows, memory);
+                self.coming = next_batch::<F>(batch.rest, self.total);
+                Ok(Some(count))
+            }
+            Ok(None) => Ok(None),
+            Err(fault) => Err(TakeRefusal::Fault(fault)),
         }
-        write_rows::<F>(batch.rows, memory);
-        self.coming = next_batch::<F>(batch.rest, self.total);
-        Ok(Some(count))
     }
 }
