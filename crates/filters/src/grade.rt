@@ -22,6 +22,7 @@ pub fn grade(level: i8) -> Option<u8>
     ensures value { result ≡ graded level }
     ensures range { IfSome result (λ g. (1 ≤ g) × (g ≤ 5)) }
 {
+    // guards, which take no longer than comparisons; half-open ranges take twice as long
     match level {
         Reading::NOT_MEASURED => None,
         _ if level >= START_1 => Some(1),

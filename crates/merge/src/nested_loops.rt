@@ -86,6 +86,7 @@ impl<'a, O: KeyOrder, F: Filter> Sides<'a, O, F> {
         ensures { result ≡ passing_sides self.now streamed.now buffered.now }
     {
         let across = self.order.compare_across(&streamed.key, &buffered.key);
+        // a match, which leaves the loop over pairs where `oriented` stays in it
         across.is_eq()
             && match self.kind {
                 Kind::Right => lets_through(self.filter, &buffered.reading, &streamed.reading),

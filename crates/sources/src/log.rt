@@ -56,6 +56,7 @@ impl<'a, F: KeyKind> Source for Log<'a, F> {
     }
 
     fn take(&mut self, memory: &mut [Row<F::Key>]) -> Result<Option<usize>, TakeRefusal> {
+        // one match: by `?` what comes next is copied before it is looked at
         match self.coming {
             Ok(Some(batch)) => {
                 let count = row_count::<F>(batch.rows);
