@@ -90,10 +90,14 @@ impl BufferedData {
     pub fn leaving(&self) -> usize
         ensures { result ≡ length (leaving (holding self.now).batches) }
     {
-        self.batches[..self.count]
+        // By cases, and not by `unwrap_or`: an edit of one case is then refused for the value that it answers.
+        match self.batches[..self.count]
             .iter()
             .position(|batch| !batch.is_consumed())
-            .unwrap_or(self.count)
+        {
+            Some(i) => i,
+            None => self.count,
+        }
     }
 
     // The rows of the first k batches, or of all where they are fewer.

@@ -12,7 +12,12 @@ pub fn same_from<O: KeyOrder>(order: &O, key: &O::Key, rows: &[Row<O::Key>]) -> 
     ensures longest { Differs (O.KeyOrder.within order.now) key.now (drop result rows.now) }
     ensures onward { GoesOn (O.KeyOrder.within order.now) key.now rows.now result }
 {
-    rows.iter()
+    // By cases, and not by `unwrap_or`: an edit of one case is then refused for the value that it answers.
+    match rows
+        .iter()
         .position(|row| order.compare_within(key, &row.key).is_ne())
-        .unwrap_or(rows.len())
+    {
+        Some(i) => i,
+        None => rows.len(),
+    }
 }
