@@ -11,7 +11,7 @@ returns-in-Some g c =
     let within = g.O.KeyOrder.within c.args.order.now in
     let key = c.args.key.now in
     let rows = c.args.rows.now in
-    let all = read within key rows c.in-Some.i (sym (run_first within key rows c.position.result
+    let all = read within key rows _ (sym (run_first within key rows c.position.result
     (IsFirst-from_position _ _ c.position.result (λ x. is_ne (within key x.key) ≡ true) (λ x. is_ne (within key x.key) ≡ false)
     c.position.ensures.ran (YieldsList-from_slice rows cc) (λ x q k. search (rules, tests)) (λ x q k. search (rules, tests)))
     ∙ ap (λ r. unwrap_or r (length rows)) c.in-Some.is)) in
@@ -22,7 +22,7 @@ returns-in-None g c =
     let within = g.O.KeyOrder.within c.args.order.now in
     let key = c.args.key.now in
     let rows = c.args.rows.now in
-    let all = read within key rows (length rows) (sym (run_first within key rows c.position.result
+    let all = read within key rows _ (sym (run_first within key rows c.position.result
     (IsFirst-from_position _ _ c.position.result (λ x. is_ne (within key x.key) ≡ true) (λ x. is_ne (within key x.key) ≡ false)
     c.position.ensures.ran (YieldsList-from_slice rows cc) (λ x q k. search (rules, tests)) (λ x q k. search (rules, tests)))
     ∙ ap (λ r. unwrap_or r (length rows)) c.in-None.is)) in
